@@ -1,0 +1,3 @@
+pub mod P3109Laws
+pub mod SignLaws
+pub mod ValueLaws

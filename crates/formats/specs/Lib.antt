@@ -1,0 +1,7 @@
+pub mod Value
+pub mod Meaning
+pub mod Refusals
+pub mod Readings
+pub mod Signs
+pub mod P3109
+pub mod Binary16

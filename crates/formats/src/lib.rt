@@ -1,0 +1,6 @@
+// Number formats: what a code reads as, and the code of a reading.
+pub mod fault;
+pub mod format;
+pub mod p3109;
+pub mod reading;
+mod signs;

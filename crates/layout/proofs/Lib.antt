@@ -1,0 +1,3 @@
+pub mod CodeLaws
+pub mod DigitLaws
+pub mod SizeLaws
