@@ -12,7 +12,6 @@ use lib.Signed.{_≤ℤ_}
 use Rattle.std.proofs.shelf.Signed.{ints}
 use Rattle.std.proofs.shelf.Tests.{cases-lt, lt-ltb, le-ltb, eq-eqb, ne-eqb}
 use Rattle.std.specs.declared.option.Option.the-variants.{Some}
-use Rattle.std.specs.declared.result.Result.{Result}
 use Rattle.std.specs.declared.result.Result.the-variants.{Ok}
 use Rattle.layout.specs.Codes.{SizeAt}
 use Rattle.layout.specs.Sizes.{bottom, sizeAt}
@@ -21,12 +20,11 @@ use Rattle.layout.proofs.SizeLaws.{twice, size-packed, size-rises}
 use Rattle.formats.specs.Value.{Value, nan, infinite, finite, signed, negated}
 use Rattle.formats.specs.Meaning.{Meaning, Coded, Lawful}
 use Rattle.formats.specs.P3109.{Exists, bias, least, magnitude, decode, encode, p3109}
-use Rattle.formats.specs.Readings.{Decodes, Encodes}
-use Rattle.formats.specs.Signs.{Joined, SignCoded}
-use Rattle.formats.specs.declared.fault.Fault.{Fault}
+use Rattle.formats.specs.Readings.{Decodes}
+use Rattle.formats.specs.Signs.{Joined}
 use Rattle.formats.specs.declared.reading.Dyadic.{Dyadic}
 use Rattle.formats.specs.declared.reading.Reading.the-variants.{Finite}
-use Rattle.formats.proofs.SignLaws.{SignMagnitude, lawful, decodes, encodes}
+use Rattle.formats.proofs.SignLaws.{SignMagnitude, lawful, decodes}
 use Rattle.formats.proofs.ValueLaws.{same-finite, not-infinite, not-nan}
 
 -- a code but NaN's, taken apart into its sign and its magnitude
@@ -164,7 +162,3 @@ module _ (k p : ℕ) (exists : Exists k p) where
   pub decodes-finite : (c d : ℕ) (negative : Bool) (p′ : ℕ) (q : ℤ) (n : ℕ) (z : Size) (y : Dyadic) → c < 2 ^ k → Apart (2 ^ (k - 1)) c negative d → p′ ≡ p → q ≡ least k p → n ≡ 2 ^ (k - 1) - 1 → SizeAt p′ q n d (Some z) → Joined negative z y → Decodes (p3109 k p) c (Ok (Finite y))
   decodes-finite c d negative p′ q n z y lt apart pp qq nn (small, stands) joined =
       decodes (p3109 k p) c d negative z y lt (reads-signed c d negative apart (omega arith)) (rw (pp, qq) at stands) joined
-
-  pub encodes-finite : (sign p′ : ℕ) (q : ℤ) (n : ℕ) (y : Dyadic) (r : Result ℕ Fault) → sign ≡ 2 ^ (k - 1) → p′ ≡ p → q ≡ least k p → n ≡ 2 ^ (k - 1) - 1 → SignCoded sign p′ (bottom q) n y r → Encodes (p3109 k p) (Finite y) r
-  encodes-finite sign p′ q n y r ss pp qq nn coded =
-      encodes (p3109 k p) (2 ^ (k - 1)) (2 ^ (k - 1) - 1) laid y r (rw (ss, pp, qq, nn) at coded)

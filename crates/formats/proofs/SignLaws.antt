@@ -184,6 +184,10 @@ module _ (m : Meaning) (sign n : ℕ) (laid : SignMagnitude m sign n) where
       )
   encodes d (Err f) (refused, none) = (refused, λ c lt e. unread d c (m .decode c) none lt refl e)
 
+  -- the same of a layout that is known by its parts
+  pub encodes-over : (sign′ p : ℕ) (q : ℤ) (n′ : ℕ) (d : Dyadic) (r : Result ℕ Fault) → sign′ ≡ sign → p ≡ m .precision → q ≡ m .least → n′ ≡ n → SignCoded sign′ p (bottom q) n′ d r → Encodes m (Finite d) r
+  encodes-over sign′ p q n′ d r ss pp qq nn coded = encodes d r (rw (ss, pp, qq, nn) at coded)
+
 -- a size with its sign is the reading of a code that has it
 pub decodes : (m : Meaning) (c k : ℕ) (negative : Bool) (z : Size) (d : Dyadic) → c < 2 ^ m .width → m .decode c ≡ finite (signed negative (sizeIn m k)) → Stands (m .precision) (m .least) k z → Joined negative z d → Decodes m c (Ok (Finite d))
 decodes m c k negative z d lt is (size, normal) (s, e, sign) =

@@ -6,8 +6,8 @@ use Rattle.formats.specs.P3109.{Exists, p3109}
 use Rattle.formats.specs.Readings.{fine, Encodes}
 use Rattle.formats.specs.Value.{nan, infinite}
 use Rattle.formats.specs.declared.p3109.P3109.{P3109}
-use Rattle.formats.proofs.P3109Laws.{p3109-lawful, encodes-finite}
-use Rattle.formats.proofs.SignLaws.{encodes-special}
+use Rattle.formats.proofs.P3109Laws.{laid, p3109-lawful}
+use Rattle.formats.proofs.SignLaws.{encodes-over, encodes-special}
 use Rattle.formats.proofs.p3109.P3109Format.encode.Needs as need
 
 exists : (f : P3109) → Exists (f .width) (f .precision)
@@ -35,5 +35,5 @@ pub returns-in-Finite : need.returns-in-Finite
 returns-in-Finite c =
     let f = c .args .self .now in
     subst (λ r. Encodes (p3109 (f .width) (f .precision)) r (c .sign-coded .result)) (sym (c .in-Finite .is))
-    (encodes-finite (f .width) (f .precision) (exists f) (c .sign-sign .result) (c .layout .result .precision) (c .layout .result .«least_exponent») (c .layout .result .count)
+    (encodes-over (p3109 (f .width) (f .precision)) (2 ^ (f .width - 1)) (2 ^ (f .width - 1) - 1) (laid (f .width) (f .precision) (exists f)) (c .sign-sign .result) (c .layout .result .precision) (c .layout .result .«least_exponent») (c .layout .result .count)
     (c .in-Finite .value) (c .sign-coded .result) (c .sign-sign .ensures .0) (c .layout .ensures .precision) (c .layout .ensures .least) (c .layout .ensures .count) (c .sign-coded .ensures))
