@@ -22,6 +22,7 @@ use Rattle.formats.specs.Meaning.{Meaning, Coded, Lawful}
 use Rattle.formats.specs.P3109.{Exists, bias, least, magnitude, decode, encode, p3109}
 use Rattle.formats.specs.Readings.{Decodes}
 use Rattle.formats.specs.Signs.{Joined}
+use Rattle.formats.specs.declared.p3109.P3109.{P3109}
 use Rattle.formats.specs.declared.reading.Dyadic.{Dyadic}
 use Rattle.formats.specs.declared.reading.Reading.the-variants.{Finite}
 use Rattle.formats.proofs.SignLaws.{SignMagnitude, lawful, decodes}
@@ -32,7 +33,7 @@ abbrev pub Apart : ℕ → ℕ → Bool → ℕ → Type 0
 Apart sign c negative d =
     ((negative ≡ true) × (sign < c) × (d ≡ c - sign)) ⊎ ((negative ≡ false) × (c < sign) × (d ≡ c))
 
-module _ (k p : ℕ) (exists : Exists k p) where
+module _ (k p : ℕ) (there : Exists k p) where
   pub bias-most : bias k p ≤ 32
   bias-most = let le : k - p - 1 ≤ 5 = omega arith in let m : 2 ^ (k - p - 1) ≤ 2 ^ 5 = pow-mono le in m
 
@@ -162,3 +163,7 @@ module _ (k p : ℕ) (exists : Exists k p) where
   pub decodes-finite : (c d : ℕ) (negative : Bool) (p′ : ℕ) (q : ℤ) (n : ℕ) (z : Size) (y : Dyadic) → c < 2 ^ k → Apart (2 ^ (k - 1)) c negative d → p′ ≡ p → q ≡ least k p → n ≡ 2 ^ (k - 1) - 1 → SizeAt p′ q n d (Some z) → Joined negative z y → Decodes (p3109 k p) c (Ok (Finite y))
   decodes-finite c d negative p′ q n z y lt apart pp qq nn (small, stands) joined =
       decodes (p3109 k p) c d negative z y lt (reads-signed c d negative apart (omega arith)) (rw (pp, qq) at stands) joined
+
+-- a format's own facts
+pub exists : (f : P3109) → Exists (f .width) (f .precision)
+exists f = (f .wide, f .narrow, f .precise, f .short)

@@ -4,4 +4,5 @@ pub mod Refusals
 pub mod Readings
 pub mod Signs
 pub mod P3109
+pub mod AnyFormat
 pub mod Binary16

@@ -5,7 +5,7 @@ use borrow.Author.Needs.{needs}
 use Rattle.std.proofs.shelf.Bits.{one-shl}
 use Rattle.std.proofs.shelf.Signed.{ints}
 use Rattle.formats.specs.P3109.{Exists, bias}
-use Rattle.formats.proofs.P3109Laws.{bias-room}
+use Rattle.formats.proofs.P3109Laws.{exists, bias-room}
 use Rattle.formats.proofs.p3109.P3109.least_exponent.Needs as need
 
 -- the bias as the code has it
@@ -15,7 +15,7 @@ bias-is k p e = one-shl (k - p - 1) 8 (omega arith)
 pub cast-result : need.cast-result
 cast-result c =
     let f = c .args .self .now in
-    let e : Exists (f .width) (f .precision) = (f .wide, f .narrow, f .precise, f .short) in
+    let e = exists f in
     let b = bias-is (f .width) (f .precision) e in
     let r = bias-room (f .width) (f .precision) e in
     search (needs, ints)
@@ -23,7 +23,7 @@ cast-result c =
 pub sub-result : need.sub-result
 sub-result c =
     let f = c .args .self .now in
-    let e : Exists (f .width) (f .precision) = (f .wide, f .narrow, f .precise, f .short) in
+    let e = exists f in
     let b = bias-is (f .width) (f .precision) e in
     let r = bias-room (f .width) (f .precision) e in
     search (needs, ints)
@@ -31,7 +31,7 @@ sub-result c =
 pub returns : need.returns
 returns c =
     let f = c .args .self .now in
-    let e : Exists (f .width) (f .precision) = (f .wide, f .narrow, f .precise, f .short) in
+    let e = exists f in
     let b = bias-is (f .width) (f .precision) e in
     let r = bias-room (f .width) (f .precision) e in
     omega (arith, ints)

@@ -4,16 +4,10 @@ use Prim.Native.Nat.{_-_, _^_}
 use native.Mathlib.Omega.{arith}
 use lib.Dec.{ltb}
 use Rattle.std.proofs.shelf.Tests.{lt-ltb, le-ltb}
-use Rattle.formats.specs.P3109.{Exists}
 use Rattle.formats.specs.Value.{finer}
-use Rattle.formats.specs.declared.p3109.P3109.{P3109}
-use Rattle.formats.proofs.P3109Laws.{Apart, sign-double, decodes-finite, reads-nan, reads-infinite, reads-negative-infinite}
+use Rattle.formats.proofs.P3109Laws.{exists, Apart, sign-double, decodes-finite, reads-nan, reads-infinite, reads-negative-infinite}
 use Rattle.formats.proofs.p3109.P3109Format.decode.Needs as need
 use Rattle.formats.proofs.p3109.P3109Format.decode.Needs.{then-negative, else-negative}
-
--- what the format's own facts say of its width and precision
-exists : (f : P3109) → Exists (f .width) (f .precision)
-exists f = (f .wide, f .narrow, f .precise, f .short)
 
 pub returns-then-code-sign : need.returns-then-code-sign
 returns-then-code-sign c =

@@ -2,16 +2,12 @@ use mathlib.Core.Path.{_≡_, refl, sym, ap, subst, _∙_}
 use mathlib.Core.Bool.{true, false}
 use Prim.Native.Nat.{ℕ, _-_, _^_}
 use native.Mathlib.Omega.{arith}
-use Rattle.formats.specs.P3109.{Exists, p3109}
+use Rattle.formats.specs.P3109.{p3109}
 use Rattle.formats.specs.Readings.{fine, Encodes}
 use Rattle.formats.specs.Value.{nan, infinite}
-use Rattle.formats.specs.declared.p3109.P3109.{P3109}
-use Rattle.formats.proofs.P3109Laws.{laid, p3109-lawful}
+use Rattle.formats.proofs.P3109Laws.{exists, laid, p3109-lawful}
 use Rattle.formats.proofs.SignLaws.{encodes-over, encodes-special}
 use Rattle.formats.proofs.p3109.P3109Format.encode.Needs as need
-
-exists : (f : P3109) → Exists (f .width) (f .precision)
-exists f = (f .wide, f .narrow, f .precise, f .short)
 
 pub returns-in-Nan : need.returns-in-Nan
 returns-in-Nan c =
