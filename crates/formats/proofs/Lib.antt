@@ -1,3 +1,4 @@
+pub mod AlikeLaws
 pub mod Binary16Laws
 pub mod P3109Laws
 pub mod SignLaws

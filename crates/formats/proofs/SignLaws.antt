@@ -62,7 +62,7 @@ abs-* : (z : ℤ) (k : ℕ) → natAbs (z *ℤ pos k) ≡ natAbs z * k
 abs-* (pos n) k = refl
 abs-* (negsuc n) k = abs-negated (suc n * k)
 
-abs-signed : (negative : Bool) (n : ℕ) → natAbs (signed negative n) ≡ n
+pub abs-signed : (negative : Bool) (n : ℕ) → natAbs (signed negative n) ≡ n
 abs-signed true n = abs-negated n
 abs-signed false n = refl
 

@@ -1,4 +1,5 @@
 // Number formats: what a code reads as, and the code of a reading.
+pub mod alike;
 pub mod any;
 pub mod binary16;
 pub mod fault;
