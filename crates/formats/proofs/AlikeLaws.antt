@@ -22,7 +22,7 @@ use Rattle.formats.specs.declared.fault.Fault.the-variants.{NoSuchFormat, Code
 use Rattle.formats.specs.declared.reading.Dyadic.{Dyadic}
 use Rattle.formats.specs.declared.reading.Reading.{Reading}
 use Rattle.formats.specs.declared.reading.Reading.the-variants.{Nan, PositiveInfinity, NegativeInfinity, Finite}
-use Rattle.formats.proofs.SignLaws.{abs-signed}
+use Rattle.formats.proofs.ValueLaws.{abs-signed, no-size}
 
 -- an exponent counted from -128
 abbrev up : ℤ → ℕ
@@ -42,12 +42,6 @@ sign-known true true n e = inl refl
 sign-known true false n e = inr (omega (arith, ints))
 sign-known false true n e = inr (omega (arith, ints))
 sign-known false false n e = inl refl
-
-no-size : (s k : ℕ) → s * 2 ^ k ≡ 0 → s ≡ 0
-no-size zero k e = refl
-no-size (suc s) k e =
-    let m : 1 * 2 ^ k ≤ suc s * 2 ^ k = mul-le-mul-right (2 ^ k) (omega arith) in
-    absurd (omega (arith, pow-pos k))
 
 -- a reading's number by its parts
 abbrev made : Bool → ℕ → ℤ → Dyadic

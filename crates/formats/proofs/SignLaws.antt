@@ -24,6 +24,7 @@ use Rattle.formats.specs.declared.fault.Fault.{Fault}
 use Rattle.formats.specs.declared.reading.Dyadic.{Dyadic}
 use Rattle.formats.specs.declared.reading.Reading.{Reading}
 use Rattle.formats.specs.declared.reading.Reading.the-variants.{Nan, PositiveInfinity, NegativeInfinity, Finite}
+use Rattle.formats.proofs.ValueLaws.{signed-*, abs-*, abs-signed, signed-abs}
 
 -- the size at a magnitude code of the format
 abbrev pub sizeIn : Meaning → ℕ → ℕ
@@ -44,31 +45,6 @@ pub record SignMagnitude (m : Meaning) (sign n : ℕ) : Type 0 where
   pub negative : (k : ℕ) → 0 < k → k < n → m .decode (sign + k) ≡ finite (negℤ (pos (sizeIn m k)))
   pub answer : (z : ℤ) → m .encode (finite z) ≡ signedCode sign (m .precision) (bottom (m .least)) z
   pub only : (c : ℕ) (z : ℤ) → c < 2 ^ m .width → m .decode c ≡ finite z → (k : ℕ) × (k < n) × (natAbs z ≡ sizeIn m k)
-
-negated-* : (n k : ℕ) → negℤ (pos n) *ℤ pos k ≡ negℤ (pos (n * k))
-negated-* zero k = rw (zero-mul k) refl
-negated-* (suc n) k = refl
-
-signed-* : (negative : Bool) (n k : ℕ) → signed negative n *ℤ pos k ≡ signed negative (n * k)
-signed-* true n k = negated-* n k
-signed-* false n k = refl
-
--- the size of a product and of a size with a sign
-abs-negated : (n : ℕ) → natAbs (negℤ (pos n)) ≡ n
-abs-negated zero = refl
-abs-negated (suc n) = refl
-
-abs-* : (z : ℤ) (k : ℕ) → natAbs (z *ℤ pos k) ≡ natAbs z * k
-abs-* (pos n) k = refl
-abs-* (negsuc n) k = abs-negated (suc n * k)
-
-pub abs-signed : (negative : Bool) (n : ℕ) → natAbs (signed negative n) ≡ n
-abs-signed true n = abs-negated n
-abs-signed false n = refl
-
-signed-abs : (z : ℤ) → signed (not (nonNeg z)) (natAbs z) ≡ z
-signed-abs (pos n) = refl
-signed-abs (negsuc n) = refl
 
 -- zero has no sign to lose
 signed-kept : (negative : Bool) (s x : ℕ) → signed (negative && not (eqb s 0)) (s * x) ≡ signed negative (s * x)

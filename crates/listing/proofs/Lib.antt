@@ -1,1 +1,2 @@
 mod NumeralLaws
+mod RowLaws

@@ -2,3 +2,4 @@
 pub mod names;
 mod numerals;
 pub mod rows;
+pub mod tables;

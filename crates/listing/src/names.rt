@@ -13,15 +13,15 @@ use std::alloc::Global;
 pub fn from_name(name: &str) -> Option<AnyFormat>
     ensures { λ r. ⌜ ByName (now (name .entry)) r ⌝ }
 {
-    match name.as_bytes() {
-        b"binary16" => Some(AnyFormat::OfBinary16(Binary16)),
-        [b'b', b'i', b'n', b'a', b'r', b'y', width, b'p', precision] => {
-            let width = width.checked_sub(b'0')?;
-            let precision = precision.checked_sub(b'0')?;
-            Some(AnyFormat::OfP3109(P3109::new(width, precision).ok()?))
-        }
-        _ => None,
+    if name == "binary16" {
+        return Some(AnyFormat::OfBinary16(Binary16));
     }
+    let [width, b'p', precision] = name.strip_prefix("binary")?.as_bytes() else {
+        return None;
+    };
+    let width = width.checked_sub(b'0')?;
+    let precision = precision.checked_sub(b'0')?;
+    Some(AnyFormat::OfP3109(P3109::new(width, precision).ok()?))
 }
 
 pub fn name(heap: Global, format: &AnyFormat) -> Result<String, AllocError>

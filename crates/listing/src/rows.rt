@@ -14,6 +14,7 @@ use formats::reading::Dyadic;
 use formats::reading::Reading;
 use std::alloc::AllocError;
 use std::alloc::Global;
+use std::alloc::Refused;
 
 // Why a row is not there.
 #[derive(Drop)]
@@ -34,6 +35,14 @@ pub impl From<AllocError> for Unlisted as UnlistedFromAllocError {
     ghost converts = { λ _ r. r ≡ NoMemory };
 
     fn from(_error: AllocError) -> Unlisted {
+        Unlisted::NoMemory
+    }
+}
+
+pub impl<T: Drop> From<Refused<T>> for Unlisted as UnlistedFromRefused {
+    ghost converts = { λ _ r. r ≡ NoMemory };
+
+    fn from(_refused: Refused<T>) -> Unlisted {
         Unlisted::NoMemory
     }
 }
@@ -74,7 +83,7 @@ fn value(heap: Global, reading: Reading) -> Result<String, AllocError>
         Reading::PositiveInfinity => String::from_str(heap, "+Inf"),
         Reading::NegativeInfinity => String::from_str(heap, "-Inf"),
         Reading::Finite(value) => {
-            let places = (i16::from(value.exponent) + 32) as u16;
+            let places = (i16::from(value.exponent) + 32).unsigned_abs();
             decimal(heap, value.negative, u64::from(value.significand) << places)
         }
     }

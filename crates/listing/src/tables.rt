@@ -1,0 +1,48 @@
+// The whole table of a format.
+ghost use mathlib.Core.List.{_++_};
+ghost use mathlib.Core.Path.{_≡_};
+ghost use Prim.Native.Nat.{ℕ};
+ghost use Rattle.std.specs.Of.String.{string-bytes};
+ghost use Rattle.std.specs.Of.Vec.{vec-items};
+ghost use Rattle.std.specs.Results.{Cases};
+ghost use Rattle.std.specs.Vec.{made};
+ghost use Rattle.formats.specs.AnyFormat.{meaningOf};
+ghost use Rattle.listing.specs.Names.{nameOf};
+ghost use Rattle.listing.specs.Tables.{Title, Complete, OnlyMemory};
+use crate::names::name;
+use crate::numerals::decimal;
+use crate::rows::Unlisted;
+use crate::rows::UnlistedFromAllocError;
+use crate::rows::UnlistedFromRefused;
+use crate::rows::row;
+use formats::any::AnyFormat;
+use formats::any::AnyFormatFormat;
+use formats::format::Format;
+use std::alloc::AllocError;
+use std::alloc::Global;
+
+// The format's name with its width K, its precision P, its least exponent q and its largest finite
+// value M.
+pub fn title(heap: Global, format: &AnyFormat) -> Result<String, AllocError>
+    ensures { λ r. ⌜ made r (λ s. Title (nameOf (now (format .entry))) (meaningOf (now (format .entry))) (string-bytes s)) ⌝ }
+{
+    let shape = format.shape();
+    let name = name(heap, format)?;
+    let width = shape.width;
+    let precision = shape.precision;
+    let least = shape.least_exponent;
+    let largest = decimal(heap, false, shape.largest)?;
+    format!(heap, "{name} K={width} P={precision} q={least} M={largest}")
+}
+
+// The lines of all codes, in their order.
+pub fn table<F: Format>(heap: Global, format: &F) -> Result<Vec<String>, Unlisted>
+    ensures { λ r. ⌜ Cases r (λ v. Complete string-bytes (F·Format .meaning (now (format .entry))) (vec-items v)) OnlyMemory ⌝ }
+{
+    let codes = 1u32 << format.shape().width;
+    let mut lines = Vec::new(heap);
+    for code in 0..codes {
+        lines.push(row(heap, format, code as u16)?)?;
+    }
+    Ok(lines)
+}
