@@ -1,38 +1,59 @@
 // Prints what every code of the named formats reads as.
 use formats::any::AnyFormat;
 use formats::any::AnyFormatFormat;
-use formats::format::Format;
-use formats::p3109::P3109;
 use listing::names::from_name;
-use listing::names::name;
-use listing::rows::Unlisted;
-use listing::rows::row;
+use listing::tables::table;
+use listing::tables::title;
 use std::env;
 use std::error::AnyError;
 use std::io::BufWriter;
 use std::io::Write;
 
 fn main(rt: LibcRuntime) -> Result<(), AnyError> {
-    rt.report(run(&rt))
+    match run(&rt) {
+        Ok(()) => Ok(()),
+        Err(error) => {
+            eprintln!(rt, "tables: {error}")?;
+            Err(error)
+        }
+    }
+}
+
+fn run(rt: &LibcRuntime) -> Result<(), AnyError> {
+    let formats = chosen(rt)?;
+    let mut out = BufWriter::new(rt.stdout());
+    let mut codes = 0usize;
+    for format in formats.iter() {
+        let Ok(lines) = table(rt.alloc(), format) else {
+            return Err("no memory is left for the table".into());
+        };
+        writeln!(out, "{}", title(rt.alloc(), format)?)?;
+        for line in lines.iter() {
+            writeln!(out, "{line}")?;
+        }
+        codes = codes.saturating_add(lines.len());
+    }
+    let count = formats.len();
+    writeln!(out, "codes read: {codes}, formats read: {count}")?;
+    out.flush()?;
+    Ok(())
 }
 
 // The formats that the arguments name, or every P3109 format where they name none.
-fn run(rt: &LibcRuntime) -> Result<(), AnyError> {
+fn chosen(rt: &LibcRuntime) -> Result<Vec<AnyFormat>, AnyError> {
     let mut formats = Vec::new(rt.alloc());
     for argument in env::args(rt)?.skip(1) {
-        match from_name(argument.as_str()) {
-            Some(format) => formats.push(format)?,
-            None => return Err(unknown(rt, argument.as_str())?.as_str().into()),
-        }
+        let Some(format) = from_name(argument.as_str()) else {
+            return Err(format!(rt.alloc(), "no format is named {argument}")?.into());
+        };
+        formats.push(format)?;
     }
     if formats.is_empty() {
-        for width in 3..=8 {
-            for precision in 2..width {
-                if let Ok(format) = P3109::new(width, precision) {
-                    formats.push(AnyFormat::OfP3109(format))?;
-                }
+        for byte in 1..=u8::MAX {
+            if let Ok(format) = AnyFormat::from_byte(byte) {
+                formats.push(format)?;
             }
         }
     }
-    print_all(rt, formats.as_slice())
+    Ok(formats)
 }
