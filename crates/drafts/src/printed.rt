@@ -20,12 +20,22 @@ pub(crate) enum Printed {
 
 // As `-0.0009765625`, `2.3283064E-10`, `+Inf` or `NaN`.
 pub(crate) fn decimal(text: &str) -> Option<Printed> {
-    match text {
-        "NaN" => return Some(Printed::Nan),
-        "+Inf" => return Some(Printed::PositiveInfinity),
-        "-Inf" => return Some(Printed::NegativeInfinity),
-        _ => {}
+    if let Some(special) = special(text) {
+        return Some(special);
     }
+    Some(Printed::Finite(decimal_number(text)?))
+}
+
+fn special(text: &str) -> Option<Printed> {
+    match text {
+        "NaN" => Some(Printed::Nan),
+        "+Inf" => Some(Printed::PositiveInfinity),
+        "-Inf" => Some(Printed::NegativeInfinity),
+        _ => None,
+    }
+}
+
+fn decimal_number(text: &str) -> Option<Number> {
     let (mantissa, power) = powered(text)?;
     let (negative, size) = match mantissa.strip_prefix('-') {
         Some(size) => (true, size),
@@ -37,13 +47,13 @@ pub(crate) fn decimal(text: &str) -> Option<Printed> {
     };
     let numerator = digits(digits(0, whole)?, after)?;
     let places = i16::try_from(after.len()).ok()?;
-    Some(Printed::Finite(Number {
+    Some(Number {
         negative,
         numerator,
         denominator: 1,
         tens: power.checked_sub(places)?,
         twos: 0,
-    }))
+    })
 }
 
 // The number before an `E` or `e`, and the power of ten after it.

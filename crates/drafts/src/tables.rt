@@ -104,18 +104,31 @@ pub(crate) fn extremes(rt: &LibcRuntime, text: &str) -> Result<Tally, AnyError> 
     Ok(tally)
 }
 
+const EXTREMES: [&str; 4] = ["minSubnormal", "maxSubnormal", "minNormal", "maxNormal"];
+
 fn extreme_agrees(row: &str) -> Option<bool> {
     let (format, extreme, value) = words(row)?;
     let number = printed::binary(value)?;
     let found = surveyed(format)?;
-    let value = match extreme {
-        "minSubnormal" => found.subnormal.least?,
-        "maxSubnormal" => found.subnormal.greatest?,
-        "minNormal" => found.normal.least?,
-        "maxNormal" => found.normal.greatest?,
-        _ => return None,
-    };
-    Some(compare::equals(&number, &value))
+    let answers = [
+        found.subnormal.least,
+        found.subnormal.greatest,
+        found.normal.least,
+        found.normal.greatest,
+    ];
+    for (name, answer) in EXTREMES.iter().zip(answers.iter()) {
+        if *name == extreme {
+            return Some(is_value(&number, answer));
+        }
+    }
+    None
+}
+
+fn is_value(number: &Number, answer: &Option<Dyadic>) -> bool {
+    match answer {
+        Some(value) => compare::equals(number, value),
+        None => false,
+    }
 }
 
 // Rows of a format's name, a kind's name and how many values there are of it.
@@ -127,29 +140,47 @@ pub(crate) fn counts(rt: &LibcRuntime, text: &str) -> Result<Tally, AnyError> {
     Ok(tally)
 }
 
+const KINDS: [&str; 8] = [
+    "total",
+    "specials",
+    "ordinaries",
+    "subnormals",
+    "normals",
+    "magnitudes",
+    "positiveSubnormals",
+    "positiveNormals",
+];
+
 fn count_agrees(row: &str) -> Option<bool> {
     let (format, kind, count) = words(row)?;
     let count = count.parse::<u32>().ok()?;
-    let found = surveyed(format)?;
+    let answers = counted(&surveyed(format)?);
+    for (name, answer) in KINDS.iter().zip(answers.iter()) {
+        if *name == kind {
+            return Some(*answer == count);
+        }
+    }
+    None
+}
+
+// How many values there are of each of `KINDS`.
+fn counted(found: &Survey) -> [u32; 8] {
     let positives = found.subnormal.count.saturating_add(found.normal.count);
-    let answered = match kind {
-        "total" => found.total,
-        "specials" => found.specials,
-        "ordinaries" => positives.saturating_add(found.negatives),
-        "subnormals" => found
-            .subnormal
-            .count
-            .saturating_add(found.negative_subnormals),
-        "normals" => found
-            .normal
-            .count
-            .saturating_add(found.negatives.checked_sub(found.negative_subnormals)?),
-        "magnitudes" => positives,
-        "positiveSubnormals" => found.subnormal.count,
-        "positiveNormals" => found.normal.count,
-        _ => return None,
-    };
-    Some(answered == count)
+    let subnormals = found
+        .subnormal
+        .count
+        .saturating_add(found.negative_subnormals);
+    let ordinaries = positives.saturating_add(found.negatives);
+    [
+        found.total,
+        found.specials,
+        ordinaries,
+        subnormals,
+        ordinaries.saturating_sub(subnormals),
+        positives,
+        found.subnormal.count,
+        found.normal.count,
+    ]
 }
 
 fn surveyed(name: &str) -> Option<Survey> {

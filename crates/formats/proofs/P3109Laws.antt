@@ -17,21 +17,16 @@ use Rattle.layout.specs.Codes.{SizeAt}
 use Rattle.layout.specs.Sizes.{bottom, sizeAt}
 use Rattle.layout.specs.declared.Size.{Size}
 use Rattle.layout.proofs.SizeLaws.{twice, size-packed, size-rises}
-use Rattle.formats.specs.Value.{Value, nan, infinite, finite, signed, negated}
+use Rattle.formats.specs.Value.{Value, nan, infinite, finite, signed, negated, finer}
 use Rattle.formats.specs.Meaning.{Meaning, Coded, Lawful}
-use Rattle.formats.specs.P3109.{Exists, bias, least, magnitude, decode, encode, p3109}
+use Rattle.formats.specs.P3109.{Exists, bias, least, magnitude, decode, encode, Specials, p3109}
 use Rattle.formats.specs.Readings.{Decodes}
 use Rattle.formats.specs.Signs.{Joined}
 use Rattle.formats.specs.declared.p3109.P3109.{P3109}
 use Rattle.formats.specs.declared.reading.Dyadic.{Dyadic}
-use Rattle.formats.specs.declared.reading.Reading.the-variants.{Finite}
+use Rattle.formats.specs.declared.reading.Reading.the-variants.{PositiveInfinity, NegativeInfinity, Finite}
 use Rattle.formats.proofs.SignLaws.{SignMagnitude, lawful, decodes}
 use Rattle.formats.proofs.ValueLaws.{same-finite, not-infinite, not-nan}
-
--- a code but NaN's, taken apart into its sign and its magnitude
-abbrev pub Apart : ℕ → ℕ → Bool → ℕ → Type 0
-Apart sign c negative d =
-    ((negative ≡ true) × (sign < c) × (d ≡ c - sign)) ⊎ ((negative ≡ false) × (c < sign) × (d ≡ c))
 
 module _ (k p : ℕ) (there : Exists k p) where
   pub bias-most : bias k p ≤ 32
@@ -111,6 +106,13 @@ module _ (k p : ℕ) (there : Exists k p) where
       let x : c - 2 ^ (k - 1) ≡ 2 ^ (k - 1) - 1 = omega arith in
       reads-negated c (omega (arith, sign-least)) ∙ rw (eq-eqb (c - 2 ^ (k - 1)) (2 ^ (k - 1) - 1) x)
 
+  pub specials : (sign : ℕ) → sign ≡ 2 ^ (k - 1) → Specials k p sign
+  specials sign e = record {
+    nan = reads-nan sign e;
+    positive = reads-infinite (sign - 1) (omega arith);
+    negative = reads-negative-infinite (2 * sign - 1) (omega (arith, sign-least));
+  }
+
   -- a finite reading is that of a magnitude
   only : (c : ℕ) (z : ℤ) → c < 2 ^ k → decode k p c ≡ finite z → (d : ℕ) × (d < 2 ^ (k - 1) - 1) × (natAbs z ≡ sizeAt p (bottom (least k p)) d)
   only c z lt e =
@@ -156,13 +158,22 @@ module _ (k p : ℕ) (there : Exists k p) where
       lawful (p3109 k p) (2 ^ (k - 1)) (2 ^ (k - 1) - 1) laid (omega arith)
       (omega (arith, sign-double, sign-least), reads-nan (2 ^ (k - 1)) refl) infinities
 
-  pub reads-signed : (c d : ℕ) (negative : Bool) → Apart (2 ^ (k - 1)) c negative d → d < 2 ^ (k - 1) - 1 → decode k p c ≡ finite (signed negative (sizeAt p (bottom (least k p)) d))
-  reads-signed c d negative (inl (n, lt, e)) small = rw n (reads-negative c d (omega arith) (omega arith) small)
-  reads-signed c d negative (inr (n, lt, e)) small = rw (n, ← e) (reads-positive d small)
+  -- a magnitude with its sign is the reading of a code
+  pub decodes-signed : (d : ℕ) (negative : Bool) (p′ : ℕ) (q : ℤ) (n : ℕ) (z : Size) (y : Dyadic) → d < 2 ^ (k - 1) → p′ ≡ p → q ≡ least k p → n ≡ 2 ^ (k - 1) - 1 → SizeAt p′ q n d (Some z) → Joined negative z y →
+      (negative ≡ false → Decodes (p3109 k p) d (Ok (Finite y))) ×
+      ((c : ℕ) → negative ≡ true → 0 < d → c ≡ 2 ^ (k - 1) + d → Decodes (p3109 k p) c (Ok (Finite y)))
+  decodes-signed d negative p′ q n z y lt pp qq nn (small, stands) joined =
+      let below : d < 2 ^ (k - 1) - 1 = omega arith in
+      let stands′ = rw (pp, qq) at stands in (
+        λ no. decodes (p3109 k p) d d negative z y (omega (arith, sign-double)) (rw no (reads-positive d below)) stands′ joined,
+        λ c yes some e. decodes (p3109 k p) c d negative z y (omega (arith, sign-double)) (rw yes (reads-negative c d e some below)) stands′ joined,
+      )
 
-  pub decodes-finite : (c d : ℕ) (negative : Bool) (p′ : ℕ) (q : ℤ) (n : ℕ) (z : Size) (y : Dyadic) → c < 2 ^ k → Apart (2 ^ (k - 1)) c negative d → p′ ≡ p → q ≡ least k p → n ≡ 2 ^ (k - 1) - 1 → SizeAt p′ q n d (Some z) → Joined negative z y → Decodes (p3109 k p) c (Ok (Finite y))
-  decodes-finite c d negative p′ q n z y lt apart pp qq nn (small, stands) joined =
-      decodes (p3109 k p) c d negative z y lt (reads-signed c d negative apart (omega arith)) (rw (pp, qq) at stands) joined
+  pub decodes-infinite : (c n : ℕ) → c < 2 ^ (k - 1) → n ≡ 2 ^ (k - 1) - 1 → n ≤ c → Decodes (p3109 k p) c (Ok PositiveInfinity)
+  decodes-infinite c n lt nn le = (omega (arith, sign-double), sym (ap (finer 96) (reads-infinite c (omega arith))), tt)
+
+  pub decodes-negative-infinite : (c d n : ℕ) → d < 2 ^ (k - 1) → n ≡ 2 ^ (k - 1) - 1 → n ≤ d → c ≡ 2 ^ (k - 1) + d → Decodes (p3109 k p) c (Ok NegativeInfinity)
+  decodes-negative-infinite c d n lt nn le e = (omega (arith, sign-double), sym (ap (finer 96) (reads-negative-infinite c (omega arith))), tt)
 
 -- a format's own facts
 pub exists : (f : P3109) → Exists (f .width) (f .precision)

@@ -18,6 +18,9 @@ not-infinite v negative z e f = let n : _≡_ {A = ℕ} 0 1 = cc in omega arith
 pub not-nan : (v : Value) (z : ℤ) → v ≡ nan → v ≡ finite z → ⊥
 not-nan v z e f = let n : _≡_ {A = ℕ} 0 1 = cc in omega arith
 
+pub not-both : (b : Bool) → b ≡ true → b ≡ false → ⊥
+not-both b e f = let n : _≡_ {A = ℕ} 0 1 = cc in omega arith
+
 pub negated-twice : (v : Value) → negated (negated v) ≡ v
 negated-twice nan = refl
 negated-twice (infinite true) = refl

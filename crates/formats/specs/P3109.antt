@@ -1,7 +1,7 @@
 -- The signed P3109 formats with infinities, by width K and precision P (IEEE P3109 interim report 3.0.2).
 use mathlib.Core.Path.{_≡_}
 use mathlib.Core.Bool.{Bool, true, false, cond}
-use Prim.Native.Nat.{ℕ, _+_, _-_, _^_, _<_, _≤_}
+use Prim.Native.Nat.{ℕ, _+_, _-_, _*_, _^_, _<_, _≤_}
 use lib.Dec.{eqb, ltb}
 use lib.IntN.{ℤ, pos, _-ℤ_}
 use Rattle.layout.specs.Sizes.{bottom, sizeAt}
@@ -46,3 +46,9 @@ p3109 k p = record {
   decode = decode k p;
   encode = encode k p;
 }
+
+-- the readings that are no number, by the sign bit
+pub record Specials (k p sign : ℕ) : Type 0 where
+  pub nan : decode k p sign ≡ nan
+  pub positive : decode k p (sign - 1) ≡ infinite false
+  pub negative : decode k p (2 * sign - 1) ≡ infinite true

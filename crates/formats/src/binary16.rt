@@ -1,5 +1,6 @@
 // IEEE 754 binary16.
 ghost use mathlib.Core.Path.{_≡_};
+ghost use Prim.Native.Nat.{_*_, _^_};
 ghost use lib.IntN.{negsuc};
 ghost use Rattle.formats.specs.Binary16.{binary16};
 use crate::fault::Fault;
@@ -32,6 +33,13 @@ fn magnitudes() -> Layout
     }
 }
 
+// The largest finite value, in units of 2^-32.
+fn largest() -> u64
+    ensures { λ r. ⌜ r ≡ 65504 * 2 ^ 32 ⌝ }
+{
+    magnitudes().largest()
+}
+
 pub impl Format for Binary16 as Binary16Format {
     ghost meaning = { λ _. binary16 };
 
@@ -41,7 +49,7 @@ pub impl Format for Binary16 as Binary16Format {
             width: 16,
             precision: layout.precision,
             least_exponent: layout.least_exponent,
-            largest: layout.largest(),
+            largest: largest(),
         }
     }
 

@@ -6,7 +6,7 @@ use crate::fault::Fault;
 use crate::reading::Reading;
 
 // K, P, q and M of a format.
-#[derive(Clone, Copy, PartialEq, Eq, Debug)]
+#[derive(Clone, Copy)]
 pub struct Shape {
     pub width: u8,
     pub precision: u8,

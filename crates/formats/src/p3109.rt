@@ -1,8 +1,10 @@
 // The signed P3109 formats with infinities.
 ghost use mathlib.Core.Path.{_≡_};
-ghost use Prim.Native.Nat.{ℕ, _+_, _-_, _^_, _<_, _≤_};
+ghost use mathlib.Core.Bool.{true, false};
+ghost use Prim.Native.Nat.{ℕ, _+_, _-_, _*_, _^_, _<_, _≤_};
 ghost use Rattle.std.specs.declared.result.Result.the-variants.{Ok, Err};
-ghost use Rattle.formats.specs.P3109.{Exists, least, p3109};
+ghost use Rattle.formats.specs.P3109.{Exists, bias, least, Specials, p3109};
+ghost use Rattle.formats.specs.Readings.{Decodes};
 ghost use Rattle.formats.specs.Refusals.{Refuses};
 use crate::fault::Fault;
 use crate::format::Format;
@@ -34,18 +36,27 @@ impl P3109 {
         Ok(P3109 { width, precision })
     }
 
-    // The sign bit, which alone is the code of NaN.
+    // The sign bit, which alone is the code of NaN; infinity's are the last codes of either sign.
     fn sign(&self) -> u16
-        ensures { λ r. ⌜ r ≡ 2 ^ (now (self .entry) .width - 1) ⌝ ∗ ⌜ 4 ≤ r ⌝ ∗ ⌜ r ≤ 128 ⌝ }
+        ensures is { λ r. ⌜ r ≡ 2 ^ (now (self .entry) .width - 1) ⌝ }
+        ensures least { λ r. ⌜ 4 ≤ r ⌝ }
+        ensures most { λ r. ⌜ r ≤ 128 ⌝ }
+        ensures double { λ r. ⌜ 2 ^ now (self .entry) .width ≡ 2 * r ⌝ }
+        ensures reads { λ r. ⌜ Specials (now (self .entry) .width) (now (self .entry) .precision) r ⌝ }
     {
         1 << (self.width - 1)
+    }
+
+    fn bias(&self) -> u8
+        ensures { λ r. ⌜ r ≡ bias (now (self .entry) .width) (now (self .entry) .precision) ⌝ ∗ ⌜ r + now (self .entry) .precision ≤ 34 ⌝ }
+    {
+        1 << (self.width - self.precision - 1)
     }
 
     fn least_exponent(&self) -> i8
         ensures { λ r. ⌜ r ≡ least (now (self .entry) .width) (now (self .entry) .precision) ⌝ }
     {
-        let bias = 1u8 << (self.width - self.precision - 1);
-        2 - (bias + self.precision) as i8
+        2 - (self.bias() + self.precision) as i8
     }
 
     // The finite magnitudes: all codes below the sign bit but the last.
@@ -58,6 +69,19 @@ impl P3109 {
             precision: self.precision,
             least_exponent: self.least_exponent(),
             count: self.sign() - 1,
+        }
+    }
+
+    // What a code other than NaN's reads as, by its sign and its magnitude.
+    fn signed(&self, negative: bool, magnitude: u16) -> Reading
+        requires { ⌜ magnitude < 2 ^ (now self .width - 1) ⌝ }
+        ensures positive { λ r. ⌜ (negative ≡ false → Decodes (p3109 (now (self .entry) .width) (now (self .entry) .precision)) magnitude (Ok r)) ⌝ }
+        ensures negative { λ r. ⌜ ((c : ℕ) → negative ≡ true → 0 < magnitude → c ≡ 2 ^ (now (self .entry) .width - 1) + magnitude → Decodes (p3109 (now (self .entry) .width) (now (self .entry) .precision)) c (Ok r)) ⌝ }
+    {
+        match self.layout().at(magnitude) {
+            Some(size) => Reading::Finite(join(negative, size)),
+            None if negative => Reading::NegativeInfinity,
+            None => Reading::PositiveInfinity,
         }
     }
 }
@@ -79,15 +103,12 @@ pub impl Format for P3109 as P3109Format {
         if code >= 2 * sign {
             return Err(Fault::CodeTooLarge(0));
         }
-        if code == sign {
-            return Ok(Reading::Nan);
-        }
-        let negative = code > sign;
-        let magnitude = if negative { code - sign } else { code };
-        match self.layout().at(magnitude) {
-            Some(size) => Ok(Reading::Finite(join(negative, size))),
-            None if negative => Ok(Reading::NegativeInfinity),
-            None => Ok(Reading::PositiveInfinity),
+        if code < sign {
+            Ok(self.signed(false, code))
+        } else if code == sign {
+            Ok(Reading::Nan)
+        } else {
+            Ok(self.signed(true, code - sign))
         }
     }
 

@@ -29,7 +29,9 @@ pub(crate) fn sign_coded(layout: &Layout, sign: u16, value: Dyadic) -> Result<u1
         significand: value.significand,
         exponent: value.exponent,
     };
-    let code = layout.find(size).ok_or(Fault::ValueNotRepresentable)?;
+    let Some(code) = layout.find(size) else {
+        return Err(Fault::ValueNotRepresentable);
+    };
     if value.negative && code != 0 {
         Ok(code + sign)
     } else {

@@ -1,7 +1,7 @@
 -- What the calls on a layout answer.
 use mathlib.Core.Path.{_≡_}
 use mathlib.Core.Logic.{_⊎_}
-use Prim.Native.Nat.{ℕ, _+_, _-_, _*_, _/_, _^_, _<_, _≤_}
+use Prim.Native.Nat.{ℕ, _+_, _-_, _*_, _/_, _%_, _^_, _<_, _≤_}
 use lib.IntN.{ℤ, pos, negsuc, _+ℤ_, natAbs}
 use lib.Signed.{_≤ℤ_}
 use Rattle.std.specs.declared.option.Option.{Option}
@@ -34,6 +34,18 @@ abbrev pub CodeFound : ℕ → ℤ → ℕ → Size → Option ℕ → Type 0
 CodeFound p q n z (Some c) = (c < n) × (sizeAt p (bottom q) c * 2 ^ 96 ≡ fineSize z)
 CodeFound p q n z None = (c : ℕ) → c < n → sizeAt p (bottom q) c * 2 ^ 96 ≡ fineSize z → ⊥
 
+-- the one code that has the size, were there codes without end, or none has it
+abbrev pub OneCode : ℕ → ℤ → Size → Option ℕ → Type 0
+OneCode p q z (Some c) =
+    (sizeAt p (bottom q) c * 2 ^ 96 ≡ fineSize z) × ((k : ℕ) → sizeAt p (bottom q) k * 2 ^ 96 ≡ fineSize z → k ≡ c)
+OneCode p q z None = (k : ℕ) → sizeAt p (bottom q) k * 2 ^ 96 ≡ fineSize z → ⊥
+
+-- a size that is a number of 64 bits in units of 2^-32
+pub record InUnits (z : Size) : Type 0 where
+  pub deep : negsuc 31 ≤ℤ z .exponent
+  pub most : z .exponent ≤ℤ pos 31
+  pub below : fineSize z < 2 ^ 160
+
 -- the place of the last digit for a size of n units of 2^-128, counted from there: the size has at most P digits from there up,
 -- and has P of them unless the place is the least exponent
 pub record Placed (p b n place : ℕ) : Type 0 where
@@ -45,3 +57,8 @@ pub record Placed (p b n place : ℕ) : Type 0 where
 abbrev pub WholeShift : ℕ → ℕ → ℕ → Option ℕ → Type 0
 WholeShift s from to (Some t) = t * 2 ^ to ≡ s * 2 ^ from
 WholeShift s from to None = (t : ℕ) → t * 2 ^ to ≡ s * 2 ^ from → ⊥
+
+-- s / unit, where that is whole
+abbrev pub Divided : ℕ → ℕ → Option ℕ → Type 0
+Divided s unit (Some t) = (s % unit ≡ 0) × (t ≡ s / unit)
+Divided s unit None = s % unit ≡ 0 → ⊥

@@ -4,7 +4,7 @@ mod magnitudes;
 pub use magnitudes::Layout;
 
 // The size significand × 2^exponent.
-#[derive(Clone, Copy, PartialEq, Eq, Debug)]
+#[derive(Clone, Copy)]
 pub struct Size {
     pub significand: u16,
     pub exponent: i8,

@@ -4,7 +4,7 @@ ghost use Prim.Native.Nat.{ℕ, _+_, _-_, _*_, _/_, _%_, _^_, _<_, _≤_};
 ghost use lib.IntN.{pos, negsuc, _+ℤ_, natAbs};
 ghost use lib.Signed.{_≤ℤ_};
 ghost use Rattle.layout.specs.Sizes.{bottom, sizeAt};
-ghost use Rattle.layout.specs.Codes.{fineSize, Stands, SizeAt, CodeFound, Placed, WholeShift};
+ghost use Rattle.layout.specs.Codes.{fineSize, Stands, SizeAt, CodeFound, OneCode, InUnits, Placed, WholeShift, Divided};
 use crate::Size;
 
 // `count` codes from 0 up, of `precision` bits, the lowest place at 2^`least_exponent`; every size
@@ -37,13 +37,24 @@ impl Layout {
     pub fn largest(&self) -> u64
         ensures { λ r. ⌜ r ≡ sizeAt (now (self .entry) .precision) (bottom (now (self .entry) .«least_exponent»)) (now (self .entry) .count - 1) ⌝ }
     {
-        let size = self.size(self.count - 1);
-        u64::from(size.significand) << (biased(size.exponent) - 96)
+        units(self.size(self.count - 1))
     }
 
     // The code that has the size, or None where no code has it.
     pub fn find(&self, size: Size) -> Option<u16>
         ensures { λ r. ⌜ CodeFound (now (self .entry) .precision) (now (self .entry) .«least_exponent») (now (self .entry) .count) size r ⌝ }
+    {
+        let code = self.code_of(size)?;
+        if code < u32::from(self.count) {
+            Some(code as u16)
+        } else {
+            None
+        }
+    }
+
+    // The code that would have the size, were there codes without end.
+    fn code_of(&self, size: Size) -> Option<u32>
+        ensures { λ r. ⌜ OneCode (now (self .entry) .precision) (now (self .entry) .«least_exponent») size r ⌝ }
     {
         if size.significand == 0 {
             return Some(0);
@@ -51,12 +62,7 @@ impl Layout {
         let place = self.place(size);
         let significand = shifted(size.significand, biased(size.exponent), place)?;
         let steps = u32::from(place - biased(self.least_exponent));
-        let code = u32::from(significand) + steps * u32::from(self.hidden());
-        if code < u32::from(self.count) {
-            Some(code as u16)
-        } else {
-            None
-        }
+        Some(u32::from(significand) + steps * u32::from(self.hidden()))
     }
 
     // The place of the last digit of a size with `precision` digits, or the least exponent if that
@@ -79,24 +85,51 @@ impl Layout {
         1 << (self.precision - 1)
     }
 
+    // The size at a code: below 2^(precision - 1) the leading bit is not there.
     fn size(&self, code: u16) -> Size
         requires { ⌜ code < now self .count ⌝ }
-        ensures { λ r. ⌜ Stands (now (self .entry) .precision) (now (self .entry) .«least_exponent») code r ⌝ }
+        ensures stands { λ r. ⌜ Stands (now (self .entry) .precision) (now (self .entry) .«least_exponent») code r ⌝ }
+        ensures small { λ r. ⌜ InUnits r ⌝ }
     {
-        let hidden = self.hidden();
-        let fraction = code % hidden;
-        let field = code / hidden;
-        if field == 0 {
-            return Size {
-                significand: fraction,
-                exponent: self.least_exponent,
-            };
-        }
-        Size {
-            significand: hidden + fraction,
-            exponent: self.least_exponent + (field - 1) as i8,
+        if code < self.hidden() {
+            self.subnormal(code)
+        } else {
+            self.normal(code)
         }
     }
+
+    fn subnormal(&self, code: u16) -> Size
+        requires known { ⌜ code < now self .count ⌝ }
+        requires low { ⌜ code < 2 ^ (now self .precision - 1) ⌝ }
+        ensures stands { λ r. ⌜ Stands (now (self .entry) .precision) (now (self .entry) .«least_exponent») code r ⌝ }
+        ensures small { λ r. ⌜ InUnits r ⌝ }
+    {
+        Size {
+            significand: code,
+            exponent: self.least_exponent,
+        }
+    }
+
+    fn normal(&self, code: u16) -> Size
+        requires known { ⌜ code < now self .count ⌝ }
+        requires high { ⌜ 2 ^ (now self .precision - 1) ≤ code ⌝ }
+        ensures stands { λ r. ⌜ Stands (now (self .entry) .precision) (now (self .entry) .«least_exponent») code r ⌝ }
+        ensures small { λ r. ⌜ InUnits r ⌝ }
+    {
+        let hidden = self.hidden();
+        Size {
+            significand: hidden + code % hidden,
+            exponent: self.least_exponent + (code / hidden - 1) as i8,
+        }
+    }
+}
+
+// The size in units of 2^-32.
+fn units(size: Size) -> u64
+    requires { ⌜ InUnits size ⌝ }
+    ensures { λ r. ⌜ r * 2 ^ 96 ≡ fineSize size ⌝ }
+{
+    u64::from(size.significand) << (biased(size.exponent) - 96)
 }
 
 // The exponent counted from -128.
@@ -116,8 +149,19 @@ fn shifted(significand: u16, from: u16, to: u16) -> Option<u16>
         return Some(significand << (from - to));
     }
     let places = to - from;
-    if places >= 16 || significand % (1 << places) != 0 {
+    if places >= 16 {
         return None;
     }
-    Some(significand >> places)
+    divided(significand, 1 << places)
+}
+
+// significand / unit, where that is whole.
+fn divided(significand: u16, unit: u16) -> Option<u16>
+    requires { ⌜ 0 < unit ⌝ }
+    ensures { λ r. ⌜ Divided significand unit r ⌝ }
+{
+    if significand % unit != 0 {
+        return None;
+    }
+    Some(significand / unit)
 }

@@ -1,11 +1,10 @@
-use mathlib.Core.Path.{_≡_, refl, sym, ap, _∙_}
-use Prim.Native.Nat.{ℕ, suc, _+_, _-_, _*_, _/_, _%_, _^_, _≤_, _<_}
+use mathlib.Core.Path.{_≡_, refl}
+use Prim.Native.Nat.{ℕ, _-_, _*_, _%_, _^_, _<_}
 use native.Mathlib.Omega.{arith}
-use native.Mathlib.Nat.{mul-mod-left}
+use lib.Pow.{pow-pos}
 use Rattle.std.proofs.shelf.Bits.{one-shl}
-use Rattle.layout.proofs.CodeLaws.{shift-room, shift-left, shift-odd, shift-past, shift-right}
+use Rattle.layout.proofs.CodeLaws.{shift-room, shift-left, shift-odd, shift-past, shift-divided}
 use Rattle.layout.proofs.magnitudes.shifted.Needs as need
-use Rattle.layout.proofs.magnitudes.shifted.Needs.{then-places-ge16·by·then-places-ge16, then-places-ge16·by·else-places-ge16·then-significand-places-ne0}
 
 pub shl-result : need.shl-result
 shl-result c = shift-room (c .args .significand) (c .args .from) (c .args .to) (c .pre .some) (c .pre .fits)
@@ -13,23 +12,21 @@ shl-result c = shift-room (c .args .significand) (c .args .from) (c .args .to) (
 pub returns-then-to-from : need.returns-then-to-from
 returns-then-to-from c = shift-left (c .args .significand) (c .args .from) (c .args .to) (c .if-to-from .taken) (c .pre .some) (c .pre .fits)
 
--- the low bits that the shift would lose, as the code has them
-mask : (s k : ℕ) → k < 16 → s % (1 * 2 ^ k % 2 ^ 16) ≡ s % 2 ^ k
-mask s k h = ap (λ x. s % x) (one-shl k 16 h)
-
 pub returns-then-places-ge16 : need.returns-then-places-ge16
 returns-then-places-ge16 c t e =
-    let whole = shift-odd (c .args .significand) (c .args .from) (c .args .to) t (c .if-to-from .left) e in
-    let k = c .args .to - c .args .from in
-    elim (c .then-places-ge16 .came) [
-      | then-places-ge16·by·then-places-ge16 w ↦
-          shift-past (c .args .significand) t k (c .pre .some) (omega (arith, c .fits .significand .fits)) (w .if-places-ge16 .taken) whole
-      | then-places-ge16·by·else-places-ge16·then-significand-places-ne0 w ↦
-          w .if-significand-places-ne0 .taken
-          (mask (c .args .significand) k (w .if-places-ge16 .left) ∙ ap (λ x. x % 2 ^ k) whole ∙ mul-mod-left t (2 ^ k))
-    ]
+    shift-past (c .args .significand) t (c .args .to - c .args .from) (c .pre .some) (omega (arith, c .fits .significand .fits)) (c .if-places-ge16 .taken)
+    (shift-odd (c .args .significand) (c .args .from) (c .args .to) t (c .if-to-from .left) e)
+
+-- the unit as the code has it
+unit : (k : ℕ) → k < 16 → 1 * 2 ^ k % 2 ^ 16 ≡ 2 ^ k
+unit k h = one-shl k 16 h
+
+pub divided-requires : need.divided-requires
+divided-requires c κs =
+    let k = c .args .to - c .args .from in omega (arith, unit k (c .if-places-ge16 .left), pow-pos k)
 
 pub returns : need.returns
 returns c =
-    shift-right (c .args .significand) (c .args .to - c .args .from) (c .args .from) (c .args .to) (c .if-to-from .left) refl
-    (sym (mask (c .args .significand) (c .args .to - c .args .from) (c .if-places-ge16 .left)) ∙ c .if-significand-places-ne0 .left)
+    let k = c .args .to - c .args .from in
+    shift-divided (c .args .significand) k (c .args .from) (c .args .to) (c .divided .result) (c .if-to-from .left) refl
+    (rw (unit k (c .if-places-ge16 .left)) at (c .divided .ensures))

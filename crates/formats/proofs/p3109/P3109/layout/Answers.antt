@@ -17,7 +17,7 @@ ghost-result c =
         omega (arith, f .narrow, f .short),
         (
           rw q (deep (f .width) (f .precision) e),
-          (omega (arith, c .sign .ensures .1 .0), (rw (q, c .sign .ensures .0) (top (f .width) (f .precision) e), tt)),
+          (omega (arith, c .sign .ensures .least), (rw (q, c .sign .ensures .is) (top (f .width) (f .precision) e), tt)),
         ),
       ),
     )
