@@ -1,4 +1,3 @@
-pub mod AlikeLaws
 pub mod Binary16Laws
 pub mod P3109Laws
 pub mod SignLaws

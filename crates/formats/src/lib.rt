@@ -1,5 +1,4 @@
 // Number formats: what a code reads as, and the code of a reading.
-pub mod alike;
 pub mod any;
 pub mod binary16;
 pub mod fault;

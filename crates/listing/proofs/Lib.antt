@@ -1,2 +1,3 @@
 mod NumeralLaws
 mod RowLaws
+mod TableLaws

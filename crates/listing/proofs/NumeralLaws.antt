@@ -148,6 +148,12 @@ decimal-written b is n before after text same empty more spelled =
       spelled = spelled ∙ ap (λ s. cond s (codes "-") [] ++ (decimal (n / 2 ^ 32) ++ (codes "." ++ after))) (sym same);
     }
 
+pub few-bits : (b k p : ℕ) → b ≡ k - p → k ≤ 16 → b < 32
+few-bits b k p e h = omega arith
+
+pub few-before : (p : ℕ) → p ≤ 12 → p - 1 < 32
+few-before p h = omega arith
+
 -- the low bits, as the code has them
 masked : (n k : ℕ) → k < 32 → n % (1 * 2 ^ k % 2 ^ 32) ≡ n % 2 ^ k
 masked n k h = ap (λ m. n % m) (one-shl k 32 h)

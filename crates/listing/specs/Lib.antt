@@ -1,4 +1,3 @@
-pub mod Names
 pub mod Numerals
 pub mod Rows
 pub mod Tables

@@ -23,6 +23,10 @@ pub record Complete {S : Type 0} (bytes : S → List ℕ) (m : Meaning) (lines :
   pub all : length lines ≡ 2 ^ m .width
   pub each : (c : ℕ) (none : S) → c < 2 ^ m .width → Line m c (bytes (getD lines c none))
 
+-- the lines of the first codes
+abbrev pub Listed : {S : Type 0} → (S → List ℕ) → Meaning → List S → ℕ → Type 0
+Listed {S} bytes m lines count = (length lines ≡ count) × ((c : ℕ) (none : S) → c < count → Line m c (bytes (getD lines c none)))
+
 -- only for want of memory
 abbrev pub OnlyMemory : Unlisted → Type 0
 OnlyMemory (Refused f) = ⊥

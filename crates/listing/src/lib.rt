@@ -1,5 +1,4 @@
 // Tables of what the codes of a format read as.
-pub mod names;
 mod numerals;
 pub mod rows;
 pub mod tables;

@@ -3,6 +3,8 @@ ghost use mathlib.Core.Path.{_≡_};
 ghost use Rattle.std.specs.Of.String.{string-bytes};
 ghost use Rattle.std.specs.Results.{Cases};
 ghost use Rattle.std.specs.Vec.{made};
+ghost use Rattle.std.specs.declared.result.Result.the-variants.{Ok};
+ghost use Rattle.formats.specs.Readings.{Decodes};
 ghost use Rattle.listing.specs.declared.rows.Unlisted.the-variants.{Refused, NoMemory};
 ghost use Rattle.listing.specs.Rows.{partsOf, Printable, Valued, Line, Lacks};
 use crate::numerals::decimal;
@@ -51,13 +53,26 @@ pub impl<T: Drop> From<Refused<T>> for Unlisted as UnlistedFromRefused {
 pub fn row<F: Format>(heap: Global, format: &F, code: u16) -> Result<String, Unlisted>
     ensures { λ r. ⌜ Cases r (λ s. Line (F·Format .meaning (now (format .entry))) code (string-bytes s)) (Lacks (F·Format .meaning (now (format .entry))) code) ⌝ }
 {
-    let shape = format.shape();
     let reading = format.decode(code)?;
+    Ok(line(heap, format, code, reading)?)
+}
+
+// The line of a code with its reading.
+fn line<F: Format>(
+    heap: Global,
+    format: &F,
+    code: u16,
+    reading: Reading,
+) -> Result<String, AllocError>
+    requires { ⌜ Decodes (F·Format .meaning (now format)) code (Ok reading) ⌝ }
+    ensures { λ r. ⌜ made r (λ s. Line (F·Format .meaning (now (format .entry))) code (string-bytes s)) ⌝ }
+{
+    let shape = format.shape();
     let hex = numeral(heap, u32::from(code), 16, (shape.width + 3) / 4)?;
     let bits = grouped(heap, code, shape.width, shape.precision)?;
     let parts = parts(heap, reading)?;
     let value = value(heap, reading)?;
-    Ok(format!(heap, "0x{hex} {bits} {parts} {value}")?)
+    format!(heap, "0x{hex} {bits} {parts} {value}")
 }
 
 // The significand and the exponent, or a dash for each.

@@ -1,9 +1,9 @@
 // Prints what every code of the named formats reads as.
 use formats::any::AnyFormat;
 use formats::any::AnyFormatFormat;
-use listing::names::from_name;
 use listing::tables::table;
 use listing::tables::title;
+use names::from_name;
 use std::env;
 use std::error::AnyError;
 use std::io::BufWriter;

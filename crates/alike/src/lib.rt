@@ -3,13 +3,13 @@ ghost use mathlib.Core.Bool.{true};
 ghost use mathlib.Core.Path.{_≡_};
 ghost use Prim.Native.Nat.{ℕ};
 ghost use Rattle.std.specs.declared.result.Result.{Result};
 ghost use Rattle.formats.specs.Meaning.{Meaning};
 ghost use Rattle.formats.specs.Readings.{Decodes};
-use crate::fault::Fault;
-use crate::fault::FaultPartialEq;
-use crate::format::Format;
-use crate::reading::Reading;
-use crate::reading::ReadingPartialEq;
+use formats::fault::Fault;
+use formats::fault::FaultPartialEq;
+use formats::format::Format;
+use formats::reading::Reading;
+use formats::reading::ReadingPartialEq;
 
 // Whether two formats answer the same at a code: they do where they have one meaning.
 pub fn decode_alike<F: Format, G: Format>(f: &F, g: &G, code: u16) -> bool

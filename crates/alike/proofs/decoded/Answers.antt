@@ -1,7 +1,7 @@
 use borrow.Author.Needs.{needs}
 use denote.Ref.{now}
-use Rattle.formats.proofs.AlikeLaws.{decodes-once}
-use Rattle.formats.proofs.alike.decoded.Needs as need
+use Rattle.alike.proofs.AlikeLaws.{decodes-once}
+use Rattle.alike.proofs.decoded.Needs as need
 
 pub returns : need.returns
 returns g c = record {
