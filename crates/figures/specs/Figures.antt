@@ -2,22 +2,30 @@
 use mathlib.Core.Path.{_≡_}
 use mathlib.Core.List.{List, [], _∷_}
 use Prim.Native.Nat.{ℕ, _*_, _^_}
-use lib.IntN.{ℤ, pos}
+use lib.IntN.{ℤ, pos, negℤ}
 use Rattle.std.specs.shelf.Lists.{All}
 use Rattle.formats.specs.AnyFormat.{byteMeaning}
-use Rattle.formats.specs.Value.{Value, finite}
+use Rattle.formats.specs.Value.{finite}
+use Rattle.rounding.specs.Projection.{projected}
+use Rattle.rounding.specs.Rule.{Rule}
+use Rattle.rounding.specs.Rules.{tiesToEven, tiesToAway, towardNegative, towardZero}
+use Rattle.rounding.specs.declared.answers.Saturation.the-variants.{OvfInf}
 
--- what a code reads as, in units of 2^-32, by the format byte
-pub record Reads : Type 0 where
-  pub format : ℕ
-  pub code : ℕ
-  pub value : Value
+pub data Figure : Type 0 where
+  -- a format byte, a code, and what the code reads as, in units of 2^-32
+  reads : ℕ → ℕ → ℕ → Figure
+  -- a rule, a value in units of 2^-96, and its code in binary8p4 and mode 2
+  gets : Rule → ℤ → ℕ → Figure
 
-abbrev reads : ℕ → ℕ → ℕ → Reads
-reads format code units = record { format = format; code = code; value = finite (pos units) }
+abbrev pub Holds : Figure → Type 0
+Holds (reads format code units) = byteMeaning format .decode code ≡ finite (pos units)
+Holds (gets rule z code) = projected (byteMeaning 0x84) rule OvfInf (finite z) .0 ≡ code
 
-abbrev pub readings : List Reads
-readings =
+abbrev whole : ℕ → ℤ
+whole n = pos (n * 2 ^ 96)
+
+abbrev pub figures : List Figure
+figures =
     -- binary8p4: 2^-10, 2^-7 and 224
     reads 0x84 0x01 (2 ^ 22) ∷
     (reads 0x84 0x08 (2 ^ 25) ∷
@@ -25,11 +33,20 @@ readings =
     -- binary8p2: 2^31
     (reads 0x82 0x7E (2 ^ 63) ∷
     -- binary16: 2^-24
-    (reads 0x00 0x0001 (2 ^ 8) ∷ []))))
-
-abbrev pub ReadsSo : Reads → Type 0
-ReadsSo f = byteMeaning (f .format) .decode (f .code) ≡ f .value
+    (reads 0x00 0x0001 (2 ^ 8) ∷
+    -- 17 lies at the half between 16 and 18, and 19 between 18 and 20
+    (gets tiesToEven (whole 17) 0x60 ∷
+    (gets tiesToAway (whole 17) 0x61 ∷
+    (gets tiesToEven (whole 19) 0x62 ∷
+    (gets towardNegative (negℤ (whole 17)) 0xE1 ∷
+    -- 232 lies at the half between 224, the largest value, and 240
+    (gets tiesToEven (whole 232) 0x7E ∷
+    (gets tiesToAway (whole 232) 0x7F ∷
+    (gets towardZero (whole 240) 0x7E ∷
+    -- 2^-11 is half of the smallest value
+    (gets tiesToEven (pos (2 ^ 85)) 0x00 ∷
+    (gets tiesToAway (pos (2 ^ 85)) 0x01 ∷ [])))))))))))))
 
 -- every figure of the table holds
 abbrev pub FiguresHold : Type 0
-FiguresHold = All ReadsSo readings
+FiguresHold = All Holds figures

@@ -1,7 +1,12 @@
 use mathlib.Core.Path.{refl}
-use Rattle.layout.specs.Sizes.{sizeAt}
+use Rattle.layout.specs.Digits.{digits}
+use Rattle.layout.specs.Sizes.{sizeAt, codeOf}
+use Rattle.rounding.specs.Projection.{lastPlace, significandOf, leftOf, goesAway, rounded, ofSize}
 use Rattle.figures.proofs.count.Needs as need
 
 pub returns : need.returns
-unfolding sizeAt
-returns c = record { number = refl; hold = (refl, (refl, (refl, (refl, (refl, tt))))) }
+unfolding digits sizeAt codeOf lastPlace significandOf leftOf goesAway rounded ofSize
+returns c = record {
+  number = refl;
+  hold = (refl, (refl, (refl, (refl, (refl, (refl, (refl, (refl, (refl, (refl, (refl, (refl, (refl, (refl, tt))))))))))))));
+}

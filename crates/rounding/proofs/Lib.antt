@@ -1,0 +1,4 @@
+pub mod CellLaws
+pub mod SizedLaws
+pub mod RoundLaws
+pub mod StepLaws

@@ -1,0 +1,5 @@
+// Exact sums.
+pub mod magnitude;
+mod signed;
+pub mod sum;
+mod words;
