@@ -1,3 +1,4 @@
 pub mod WordLaws
 pub mod SignedLaws
+pub mod SizeBound
 pub mod CutLaws
