@@ -1,6 +1,5 @@
-use Prim.Native.Nat.{_*_, _^_, _≤_}
-use Rattle.sums.specs.Sums.{Sound, size}
+use Rattle.pace.specs.Pace.{Within}
 use Rattle.pace.proofs.added.Given as given
 
 abbrev pub Inv-loop-i : given.InvT-loop-i
-Inv-loop-i l = Sound (l .sum) × (size (l .sum) ≤ l .i * 2 ^ 151)
+Inv-loop-i l = Within (l .i) (l .sum)
