@@ -54,17 +54,19 @@ fn digits(before: u64, text: &str) -> Option<u64> {
 
 // As `1*2^-32` or `31/16*2^-2`.
 pub(crate) fn binary(text: &str) -> Option<Number> {
-    let (size, power) = text.split_once("*2^")?;
-    let (numerator, denominator) = match size.split_once('/') {
-        Some((numerator, denominator)) => (numerator, digits(0, denominator)?),
-        None => (size, 1),
-    };
+    let (size, power) = parted(text, '*');
+    let twos = power.strip_prefix("2^")?.parse::<i16>().ok()?;
+    let (numerator, denominator) = parted(size, '/');
     Some(Number {
         negative: false,
         numerator: digits(0, numerator)?,
-        denominator,
+        denominator: if denominator.is_empty() {
+            1
+        } else {
+            digits(0, denominator)?
+        },
         tens: 0,
-        twos: power.parse::<i16>().ok()?,
+        twos,
     })
 }
 

@@ -77,11 +77,12 @@ fn read(format: &str, code: &str) -> Option<Reading> {
 }
 
 fn equals(reading: &Reading, value: &str) -> Option<bool> {
-    match reading {
-        Reading::Nan => Some(value == "NaN"),
-        Reading::PositiveInfinity => Some(value == "+Inf"),
-        Reading::NegativeInfinity => Some(value == "-Inf"),
-        Reading::Finite(exact) => Some(compare::equals(&printed::decimal(value)?, exact)),
+    match (reading, value) {
+        (Reading::Nan, "NaN") => Some(true),
+        (Reading::PositiveInfinity, "+Inf") => Some(true),
+        (Reading::NegativeInfinity, "-Inf") => Some(true),
+        (Reading::Finite(exact), _) => Some(compare::equals(&printed::decimal(value)?, exact)),
+        _ => None,
     }
 }
 
@@ -102,7 +103,7 @@ fn extreme_agrees(format: &str, name: &str, value: &str) -> Option<bool> {
 // A format's name, a kind's name and how many values there are of it.
 fn count_agrees(format: &str, name: &str, count: &str) -> Option<bool> {
     let answer = surveyed(format)?.count(name)?;
-    Some(count.parse::<u32>().ok()? == answer)
+    Some(count.parse::<u32>() == Ok(answer))
 }
 
 fn surveyed(format: &str) -> Option<Survey> {
