@@ -5,7 +5,6 @@ mod survey;
 mod tables;
 
 use std::error::AnyError;
-use std::fs;
 use std::io;
 use tables::Tally;
 
@@ -30,8 +29,7 @@ const FILES: [&str; 14] = [
 fn run(rt: &LibcRuntime) -> Result<(), AnyError> {
     let mut all = Tally::new();
     for file in &FILES {
-        let text = fs::read_to_string(rt, *file)?;
-        let tally = tables::compared(rt, file, text.as_str())?;
+        let tally = tables::compared(rt, file)?;
         report(rt, file, &tally)?;
         all.join(&tally);
     }

@@ -8,6 +8,7 @@ use formats::any::AnyFormatFormat;
 use formats::format::Format;
 use formats::reading::Reading;
 use names::from_name;
+use std::fs;
 use std::io;
 
 // How many rows were read, and how many of them agree.
@@ -38,7 +39,8 @@ impl Tally {
 }
 
 // Compares the rows of a file, and prints those that disagree.
-pub(crate) fn compared(rt: &LibcRuntime, file: &str, text: &str) -> io::Result<Tally> {
+pub(crate) fn compared(rt: &LibcRuntime, file: &str) -> io::Result<Tally> {
+    let text = fs::read_to_string(rt, file)?;
     let mut tally = Tally::new();
     for row in text.lines() {
         tally.note(rt, agrees(file, row).unwrap_or(false), row)?;
