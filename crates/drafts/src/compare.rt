@@ -43,7 +43,7 @@ fn sides(number: &Number, value: &Dyadic) -> Option<(u128, u128)>
 {
     let left = u128::from(number.numerator);
     let right = u128::from(value.significand).checked_mul(u128::from(number.denominator))?;
-    let (left, right) = raised(left, right, 10, i32::from(number.tens))?;
+    let (left, right) = raised(left, right, 10, number.tens)?;
     let twos = i32::from(number.twos) - i32::from(value.exponent);
     raised(left, right, 2, twos)
 }

@@ -25,6 +25,37 @@ pub(crate) struct Survey {
     pub(crate) normal: Kind,
 }
 
+impl Survey {
+    pub(crate) fn extreme(&self, name: &str) -> Option<Dyadic> {
+        match name {
+            "minSubnormal" => self.subnormal.least,
+            "maxSubnormal" => self.subnormal.greatest,
+            "minNormal" => self.normal.least,
+            "maxNormal" => self.normal.greatest,
+            _ => None,
+        }
+    }
+
+    pub(crate) fn count(&self, name: &str) -> Option<u32> {
+        let positives = self.subnormal.count.saturating_add(self.normal.count);
+        let ordinaries = positives.saturating_add(self.negatives);
+        let subnormals = self.subnormal
+            .count
+            .saturating_add(self.negative_subnormals);
+        match name {
+            "total" => Some(self.total),
+            "specials" => Some(self.specials),
+            "ordinaries" => Some(ordinaries),
+            "subnormals" => Some(subnormals),
+            "normals" => Some(ordinaries.saturating_sub(subnormals)),
+            "magnitudes" => Some(positives),
+            "positiveSubnormals" => Some(self.subnormal.count),
+            "positiveNormals" => Some(self.normal.count),
+            _ => None,
+        }
+    }
+}
+
 const NONE: Kind = Kind {
     count: 0,
     least: None,
