@@ -8,5 +8,5 @@ pub fn count() -> u32
     ensures number { λ r. ⌜ r ≡ length figures ⌝ }
     ensures hold { λ _. ⌜ FiguresHold ⌝ }
 {
-    14
+    15
 }

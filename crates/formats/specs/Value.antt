@@ -11,6 +11,11 @@ pub data Value : Type 0 where
   infinite : Bool → Value
   finite : ℤ → Value
 
+abbrev pub isNan : Value → Bool
+isNan nan = true
+isNan (infinite negative) = false
+isNan (finite z) = false
+
 abbrev pub signed : Bool → ℕ → ℤ
 signed true n = negℤ (pos n)
 signed false n = pos n

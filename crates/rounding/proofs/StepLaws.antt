@@ -22,8 +22,8 @@ use Rattle.layout.proofs.DigitLaws.{digits-below, pow-order}
 use Rattle.layout.proofs.SizeLaws.{size-aligned}
 use Rattle.formats.specs.Meaning.{Meaning, Lawful, Coded}
 use Rattle.formats.specs.Readings.{fine}
-use Rattle.formats.specs.Value.{Value, finite, signed, finer}
-use Rattle.formats.proofs.ValueLaws.{signed-*, signed-abs}
+use Rattle.formats.specs.Value.{Value, nan, infinite, finite, signed, finer}
+use Rattle.formats.proofs.ValueLaws.{same-finite, not-infinite, not-nan, signed-*, signed-abs}
 use Rattle.sums.specs.Cuts.{CutAt}
 use Rattle.sums.specs.Sums.{valueOf, value, size}
 use Rattle.sums.specs.Words.{twosComplement}
@@ -32,7 +32,7 @@ use Rattle.sums.specs.declared.sum.Standing.{Standing}
 use Rattle.sums.specs.declared.sum.Standing.the-variants.{NotANumber, PositiveInfinity, NegativeInfinity, Finite}
 use Rattle.sums.specs.declared.sum.Sum.{Sum}
 use Rattle.rounding.specs.Answers.{Answers, IsPlaced, Settles, inwardMark, outwardMark, cutMark, cutAway}
-use Rattle.rounding.specs.Laws.{NearestFor}
+use Rattle.rounding.specs.Laws.{AnswersNearest, NearestFor}
 use Rattle.rounding.specs.Projection.{lastPlace, significandOf, leftOf, remainderOf, isOdd, goesAway, rounded, ofOverflow, ofSize, answered, projected, markOf}
 use Rattle.rounding.specs.Rule.{Rule, NearestAt}
 use Rattle.rounding.specs.declared.answers.Mark.{Mark}
@@ -258,10 +258,12 @@ sum-answers m rule mode sum p a stands is settles =
 
 -- a sum that is not finite has no nearest reading to show
 nearest-at : (m : Meaning) (rule : Rule) (mode : Saturation) → Lawful m → (t : Standing) (ws : List ℕ) → let x = twosComplement ws in NearestAt rule (not (nonNeg x)) (isOdd (significandOf m (natAbs x))) → NearestFor m rule mode (valueOf t ws)
-nearest-at m rule mode laws NotANumber ws nearest = tt
-nearest-at m rule mode laws PositiveInfinity ws nearest = tt
-nearest-at m rule mode laws NegativeInfinity ws nearest = tt
-nearest-at m rule mode laws Finite ws nearest = λ most. keeps-nearest m rule mode laws (twosComplement ws) most nearest
+nearest-at m rule mode laws NotANumber ws nearest x e = absurd (not-nan nan x refl e)
+nearest-at m rule mode laws PositiveInfinity ws nearest x e = absurd (not-infinite (infinite false) false x refl e)
+nearest-at m rule mode laws NegativeInfinity ws nearest x e = absurd (not-infinite (infinite true) true x refl e)
+nearest-at m rule mode laws Finite ws nearest x e =
+    subst (λ y. natAbs y ≤ m .largest * 2 ^ 64 → AnswersNearest m rule mode y) (same-finite _ _ _ refl e)
+    (λ most. keeps-nearest m rule mode laws (twosComplement ws) most nearest)
 
 pub sum-nearest : (m : Meaning) (rule : Rule) (mode : Saturation) (sum : Sum) (p : Placed) → Lawful m → IsPlaced m sum p → NearestAt rule (p .negative) (isOdd (p .cut .digits)) → NearestFor m rule mode (value sum)
 sum-nearest m rule mode sum p laws is nearest =

@@ -5,8 +5,8 @@ use Prim.Native.Nat.{ℕ, _*_, _^_, _<_, _≤_}
 use lib.IntN.{ℤ, pos, _*ℤ_, _-ℤ_, natAbs}
 use lib.Signed.{nonNeg}
 use Rattle.formats.specs.Meaning.{Meaning, Representable}
-use Rattle.formats.specs.Value.{Value, nan, infinite, finite, less}
-use Rattle.rounding.specs.Projection.{isOdd, significandOf, isNan, projected}
+use Rattle.formats.specs.Value.{Value, finite, isNan, less}
+use Rattle.rounding.specs.Projection.{isOdd, significandOf, projected}
 use Rattle.rounding.specs.Rule.{Rule, NearestAt}
 use Rattle.rounding.specs.declared.answers.Mark.the-variants.{Exact}
 use Rattle.rounding.specs.declared.answers.Saturation.{Saturation}
@@ -41,6 +41,4 @@ KeepsReadings m rule mode = (z : ℤ) → Representable m (natAbs z) →
 
 -- a finite value within the finite ends is answered a nearest reading
 abbrev pub NearestFor : Meaning → Rule → Saturation → Value → Type 0
-NearestFor m rule mode nan = Unit {0}
-NearestFor m rule mode (infinite negative) = Unit {0}
-NearestFor m rule mode (finite x) = natAbs x ≤ m .largest * 2 ^ 64 → AnswersNearest m rule mode x
+NearestFor m rule mode v = (x : ℤ) → v ≡ finite x → natAbs x ≤ m .largest * 2 ^ 64 → AnswersNearest m rule mode x

@@ -8,7 +8,7 @@ use lib.Signed.{nonNeg}
 use Rattle.layout.specs.Digits.{digits}
 use Rattle.layout.specs.Sizes.{bottom}
 use Rattle.formats.specs.Meaning.{Meaning}
-use Rattle.formats.specs.Value.{Value, nan, infinite, finite, signed, finer, less}
+use Rattle.formats.specs.Value.{Value, nan, infinite, finite, isNan, signed, finer, less}
 use Rattle.rounding.specs.Rule.{Rule}
 use Rattle.rounding.specs.declared.answers.Mark.{Mark}
 use Rattle.rounding.specs.declared.answers.Mark.the-variants.{Exact, Low, High, Unordered}
@@ -71,11 +71,6 @@ abbrev pub answered : Meaning → Rule → Saturation → Value → Value
 answered m rule mode nan = nan
 answered m rule mode (infinite negative) = ofInfinity m mode negative
 answered m rule mode (finite x) = ofSize m rule mode (not (nonNeg x)) (natAbs x)
-
-abbrev pub isNan : Value → Bool
-isNan nan = true
-isNan (infinite s) = false
-isNan (finite z) = false
 
 -- how the answered reading lies to the exact value
 abbrev pub markOf : Value → Value → Mark

@@ -1,0 +1,5 @@
+pub mod HistoryLaws
+pub mod RegisterLaws
+pub mod RecordLaws
+pub mod EnterLaws
+pub mod RunLaws

@@ -1,0 +1,4 @@
+pub mod SumLaws
+pub mod ProductLaws
+pub mod PlaceLaws
+pub mod ReadingLaws

@@ -1,0 +1,3 @@
+pub mod Terms
+pub mod Readings
+pub mod Offers
