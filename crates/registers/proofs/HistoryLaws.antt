@@ -17,26 +17,20 @@ use Rattle.sums.specs.Sums.{value}
 use Rattle.terms.specs.Offers.{Offer, refusal, terms, addOffer, productOffer}
 use Rattle.terms.specs.Terms.{exactSum}
 use Rattle.terms.proofs.SumLaws.{exactSum-none, exactSum-++}
-use Rattle.registers.specs.Calls.{Bounded, New, limit, Brings, Answers}
+use Rattle.registers.specs.Calls.{New, Has, limit, Brings, Answers}
 use Rattle.registers.specs.Histories.{Call, add, product, dot, join, read, named, entered, listed, note, Book, book, Store, Effect, Step, Leads, Known}
 use Rattle.registers.specs.Runs.{dotOffer}
 use Rattle.registers.specs.declared.register.Register.{Register}
-
--- the register has just these terms
-pub record Has (r : Register) (ts : List Value) : Type 0 where
-  pub bounded : Bounded r
-  pub counted : r .count ≡ length ts
-  pub summed : value (r .sum) ≡ exactSum ts
 
 length-both : (ts us : List Value) → length (ts ++ us) ≡ length ts + length us
 length-both [] us = omega arith
 length-both (t ∷ ts) us = let h = length-both ts us in omega arith
 
-has-new : (r : Register) → New r → Has r []
+pub has-new : (r : Register) → New r → Has r []
 has-new r n = record { bounded = n .bounded; counted = n .none; summed = n .zero ∙ sym exactSum-none }
 
 -- terms that went in, or were refused, where the book is offered as many of the same exact sum
-brings-has : (n : ℕ) (v : Value) (old new : Register) (a : Result Unit Fault) (ts us : List Value) → n ≡ length us → v ≡ exactSum us → Has old ts → Brings n v old a new → Has new (entered ts (terms us))
+pub brings-has : (n : ℕ) (v : Value) (old new : Register) (a : Result Unit Fault) (ts us : List Value) → n ≡ length us → v ≡ exactSum us → Has old ts → Brings n v old a new → Has new (entered ts (terms us))
 brings-has n v old new (Ok done) ts us long sum has b =
     let h = has .counted in
     let f = b .fits in
@@ -54,7 +48,7 @@ brings-has n v old new (Err f) ts us long sum has (full, refuses, same) =
     let over : limit < length ts + length us = omega arith in
     rw (lt-leb (length ts + length us) limit over, same) has
 
-answers-has : (o : Offer) (old new : Register) (a : Result Unit Fault) (ts : List Value) → Has old ts → Answers o old a new → Has new (entered ts o)
+pub answers-has : (o : Offer) (old new : Register) (a : Result Unit Fault) (ts : List Value) → Has old ts → Answers o old a new → Has new (entered ts o)
 answers-has (refusal number place) old new (Ok done) ts has b = absurd b
 answers-has (refusal number place) old new (Err f) ts has (refuses, same) = rw same has
 answers-has (terms us) old new a ts has b = brings-has (length us) (exactSum us) old new a ts us refl refl has b

@@ -21,11 +21,11 @@ use Rattle.sums.specs.declared.sum.Standing.the-variants.{NotANumber, PositiveI
 use Rattle.sums.specs.declared.sum.Sum.{Sum}
 use Rattle.sums.proofs.SignedLaws.{words-signed}
 use Rattle.terms.specs.Terms.{exactSum}
-use Rattle.registers.specs.Calls.{New, readOf}
+use Rattle.registers.specs.Calls.{New, Has, readOf}
 use Rattle.registers.specs.Histories.{Known}
 use Rattle.registers.specs.Laws.{SameTerms, EqualExactlyWhen, ReadsItsTerms, KeepsOrder, NearestCode, ReadsNearest, Nearest, RegisterLaws}
 use Rattle.registers.specs.declared.register.Register.{Register}
-use Rattle.registers.proofs.HistoryLaws.{Has, known-has}
+use Rattle.registers.proofs.HistoryLaws.{known-has}
 
 abbrev sum : Standing → List ℕ → Sum
 sum a ws = record { standing = a; words = ws }

@@ -31,6 +31,12 @@ pub record New (r : Register) : Type 0 where
   pub none : r .count ≡ 0
   pub zero : value (r .sum) ≡ finite (pos 0)
 
+-- the register has just these terms
+pub record Has (r : Register) (ts : List Value) : Type 0 where
+  pub bounded : Bounded r
+  pub counted : r .count ≡ length ts
+  pub summed : value (r .sum) ≡ exactSum ts
+
 -- the most terms that a register counts
 abbrev pub limit : ℕ
 limit = 4294967295

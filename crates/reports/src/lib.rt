@@ -1,0 +1,2 @@
+// Reports as text.
+pub mod text;
