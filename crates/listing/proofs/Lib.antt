@@ -1,3 +1,4 @@
 mod NumeralLaws
 mod RowLaws
 mod TableLaws
+mod TextLaws

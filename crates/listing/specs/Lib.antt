@@ -1,3 +1,4 @@
 pub mod Numerals
 pub mod Rows
 pub mod Tables
+pub mod Texts

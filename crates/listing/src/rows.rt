@@ -1,15 +1,24 @@
 // The row of a code in a format's table.
+ghost use mathlib.Core.List.{_++_};
 ghost use mathlib.Core.Path.{_≡_};
+ghost use Prim.Native.Nat.{ℕ, _^_, _<_};
+ghost use lib.Chars.{codes};
 ghost use Rattle.std.specs.Of.String.{string-bytes};
 ghost use Rattle.std.specs.Results.{Cases};
 ghost use Rattle.std.specs.Vec.{made};
+ghost use Rattle.std.specs.declared.option.Option.the-variants.{Some};
 ghost use Rattle.std.specs.declared.result.Result.the-variants.{Ok};
 ghost use Rattle.formats.specs.Readings.{Decodes};
+ghost use Rattle.formats.specs.declared.reading.Reading.the-variants.{Finite};
 ghost use Rattle.listing.specs.declared.rows.Unlisted.the-variants.{Refused, NoMemory};
-ghost use Rattle.listing.specs.Rows.{partsOf, Printable, Valued, Line, Lacks};
-use crate::numerals::decimal;
+ghost use Rattle.listing.specs.Rows.{partsOf, Line, Lacks};
+ghost use Rattle.listing.specs.Texts.{placesOf, unitsOf, valueText};
+use crate::numerals::BitsDisplay;
+use crate::numerals::Digits;
+use crate::numerals::DigitsDisplay;
+use crate::numerals::Units;
+use crate::numerals::UnitsDisplay;
 use crate::numerals::grouped;
-use crate::numerals::numeral;
 use formats::fault::Fault;
 use formats::format::Format;
 use formats::reading::Dyadic;
@@ -17,6 +26,7 @@ use formats::reading::Reading;
 use std::alloc::AllocError;
 use std::alloc::Global;
 use std::alloc::Refused;
+use std::fmt;
 
 // Why a row is not there.
 #[derive(Drop)]
@@ -54,7 +64,10 @@ pub fn row<F: Format>(heap: Global, format: &F, code: u16) -> Result<String, Unl
     ensures { λ r. ⌜ Cases r (λ s. Line (F·Format .meaning (now (format .entry))) code (string-bytes s)) (Lacks (F·Format .meaning (now (format .entry))) code) ⌝ }
 {
     let reading = format.decode(code)?;
-    Ok(line(heap, format, code, reading)?)
+    let Ok(line) = line(heap, format, code, reading) else {
+        return Err(Unlisted::NoMemory);
+    };
+    Ok(line)
 }
 
 // The line of a code with its reading.
@@ -68,38 +81,47 @@ fn line<F: Format>(
     ensures { λ r. ⌜ made r (λ s. Line (F·Format .meaning (now (format .entry))) code (string-bytes s)) ⌝ }
 {
     let shape = format.shape();
-    let hex = numeral(heap, u32::from(code), 16, (shape.width + 3) / 4)?;
-    let bits = grouped(heap, code, shape.width, shape.precision)?;
-    let parts = parts(heap, reading)?;
-    let value = value(heap, reading)?;
-    format!(heap, "0x{hex} {bits} {parts} {value}")
+    let hex = Digits {
+        number: code as u32,
+        base: 16,
+        count: (shape.width + 3) / 4,
+    };
+    let bits = grouped(code, shape.width, shape.precision);
+    let read = Read { reading };
+    format!(heap, "0x{hex} {bits} {read}")
 }
 
-// The significand and the exponent, or a dash for each.
-fn parts(heap: Global, reading: Reading) -> Result<String, AllocError>
-    ensures { λ r. ⌜ made r (λ s. string-bytes s ≡ partsOf reading) ⌝ }
-{
-    match reading {
-        Reading::Finite(value) => {
-            let significand = value.significand;
-            let exponent = value.exponent;
-            format!(heap, "{significand} {exponent}")
+// The significand and the exponent, or a dash for each, and the exact value.
+#[derive(Clone, Copy)]
+struct Read {
+    reading: Reading,
+    ghost near: { placesOf reading < 64 },
+    ghost fits: { unitsOf reading < 2 ^ 64 },
+}
+
+impl fmt::Display for Read as ReadDisplay {
+    ghost shown = { λ x. Some (partsOf (x .reading) ++ (codes " " ++ valueText (x .reading))) };
+
+    fn fmt<W: fmt::Write>(&self, f: &mut fmt::Formatter<W>) -> fmt::Result {
+        match self.reading {
+            Reading::Nan => f.write_str("- - NaN"),
+            Reading::PositiveInfinity => f.write_str("- - +Inf"),
+            Reading::NegativeInfinity => f.write_str("- - -Inf"),
+            Reading::Finite(value) => {
+                let units = in_units(value);
+                write!(f, "{} {} {units}", value.significand, value.exponent)
+            }
         }
-        _ => String::from_str(heap, "- -"),
     }
 }
 
-fn value(heap: Global, reading: Reading) -> Result<String, AllocError>
-    requires { ⌜ Printable reading ⌝ }
-    ensures { λ r. ⌜ made r (λ s. Valued reading (string-bytes s)) ⌝ }
+fn in_units(value: Dyadic) -> Units
+    requires { ⌜ placesOf (Finite value) < 64 ⌝ ∗ ⌜ unitsOf (Finite value) < 2 ^ 64 ⌝ }
+    ensures { λ r. ⌜ r .negative ≡ value .negative ⌝ ∗ ⌜ r .units ≡ unitsOf (Finite value) ⌝ }
 {
-    match reading {
-        Reading::Nan => String::from_str(heap, "NaN"),
-        Reading::PositiveInfinity => String::from_str(heap, "+Inf"),
-        Reading::NegativeInfinity => String::from_str(heap, "-Inf"),
-        Reading::Finite(value) => {
-            let places = (i16::from(value.exponent) + 32).unsigned_abs();
-            decimal(heap, value.negative, u64::from(value.significand) << places)
-        }
+    let places = (value.exponent as i16 + 32).unsigned_abs();
+    Units {
+        negative: value.negative,
+        units: (value.significand as u64) << places,
     }
 }

@@ -9,9 +9,9 @@ ghost use Rattle.std.specs.Vec.{made};
 ghost use Rattle.formats.specs.AnyFormat.{meaningOf};
 ghost use Rattle.names.specs.Names.{nameOf};
 ghost use Rattle.listing.specs.Tables.{Title, Complete, OnlyMemory};
+use crate::numerals::UnitsDisplay;
 use crate::numerals::decimal;
 use crate::rows::Unlisted;
-use crate::rows::UnlistedFromAllocError;
 use crate::rows::UnlistedFromRefused;
 use crate::rows::row;
 use formats::any::AnyFormat;
@@ -27,12 +27,13 @@ pub fn title(heap: Global, format: &AnyFormat) -> Result<String, AllocError>
     ensures { λ r. ⌜ made r (λ s. Title (nameOf (now (format .entry))) (meaningOf (now (format .entry))) (string-bytes s)) ⌝ }
 {
     let shape = format.shape();
+    let largest = decimal(false, shape.largest);
     let name = name(heap, format)?;
-    let width = shape.width;
-    let precision = shape.precision;
-    let least = shape.least_exponent;
-    let largest = decimal(heap, false, shape.largest)?;
-    format!(heap, "{name} K={width} P={precision} q={least} M={largest}")
+    format!(
+        heap,
+        "{name} K={} P={} q={} M={largest}",
+        shape.width, shape.precision, shape.least_exponent
+    )
 }
 
 // The lines of all codes, in their order.

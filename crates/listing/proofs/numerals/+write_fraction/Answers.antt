@@ -1,36 +1,26 @@
-use mathlib.Core.Bool.{false}
-use mathlib.Core.List.{[], _∷_}
-use Prim.Native.Nat.{_*_, _/_, _^_}
+use mathlib.Core.Path.{refl}
+use mathlib.Core.Bool.{true}
 use native.Mathlib.Omega.{arith}
-use Rattle.std.specs.Of.String.{string-bytes}
-use Rattle.std.specs.Written.{glyph}
-use Rattle.listing.proofs.NumeralLaws.{fraction-last, fraction-room, fraction-ends, one-more, fraction-written}
+use Prim.Native.Nat.{_-_, _*_, _%_, _^_}
+use lib.Utf8.{encode}
+use Rattle.std.proofs.Writes.{put-is}
+use Rattle.listing.specs.Texts.{fractionText}
+use Rattle.listing.proofs.TextLaws.{put-none, put-both, fraction-none, fraction-end, fraction-next}
 use Rattle.listing.proofs.numerals.+write_fraction.Needs as need
 
-pub returns-then-rest-eq0 : need.returns-then-rest-eq0
-returns-then-rest-eq0 t c = (
-  glyph false (c .args .fraction * 10 / 2 ^ 32) ∷ [],
-  one-more _ _ _ _ _ (c .in-Continue-push .ensures tt .bytes) (c .push .ensures .ascii (c .digit-char .ensures .1)) (c .digit-char .ensures .0),
-  fraction-last (c .args .fraction) (c .pre .below) (c .if-rest-eq0 .taken),
-)
+pub returns-then-places-eq0 : need.returns-then-places-eq0
+returns-then-places-eq0 g t c plain ok =
+    put-none (g .W·Write .took) (c .args .f .now) (fractionText (c .args .places) (c .args .fraction)) (fraction-none (c .args .places) (c .args .fraction) (c .if-places-eq0 .taken)) plain
 
-pub write-fraction-requires : need.write-fraction-requires
-write-fraction-requires t c κs =
-    let f = c .args .fraction in
-    let p = c .args .places in (
-      omega (arith, c .measured),
-      (
-        omega arith,
-        (
-          fraction-room f p (c .pre .ends .0) (c .pre .ends .1) (omega (arith, c .if-rest-eq0 .left)),
-          fraction-ends f p (c .pre .ends .0) (c .pre .ends .1),
-        ),
-      ),
-    )
+pub returns-then-rest-eq0 : need.returns-then-rest-eq0
+returns-then-rest-eq0 g t c plain ok =
+    put-is (g .W·Write .took) (c .args .f .now) (encode (c .digit-char .result)) (fractionText (c .args .places) (c .args .fraction)) (c .write-char .last .self)
+    (fraction-end (c .args .places) (c .args .fraction) (c .digit-char .result) (omega (arith, c .if-places-eq0 .left)) (c .digit-char .ensures .0) (c .digit-char .ensures .1) (c .if-rest-eq0 .taken))
+    (c .in-Continue-write-char .ensures tt .prints plain (refl {a = true}))
 
 pub returns : need.returns
-returns t c =
-    fraction-written (c .write-fraction .result) (c .args .fraction) (string-bytes (c .args .text .now)) (string-bytes (c .push .last .self)) _
-    (c .pre .below) (omega (arith, c .if-rest-eq0 .left))
-    (one-more _ _ _ _ _ (c .in-Continue-push .ensures tt .bytes) (c .push .ensures .ascii (c .digit-char .ensures .1)) (c .digit-char .ensures .0))
-    (c .write-fraction .ensures)
+returns g t c plain ok =
+    put-both (g .W·Write .took) (c .args .f .now) (c .write-char .last .self) (c .write-fraction .last .f)
+    (encode (c .digit-char .result)) (fractionText (c .args .places - 1) (c .args .fraction * 10 % 2 ^ 32)) (fractionText (c .args .places) (c .args .fraction))
+    (fraction-next (c .args .places) (c .args .fraction) (c .digit-char .result) (omega (arith, c .if-places-eq0 .left)) (c .digit-char .ensures .0) (c .digit-char .ensures .1) (omega (arith, c .if-rest-eq0 .left)))
+    (c .in-Continue-write-char .ensures tt .prints plain (refl {a = true})) (λ after. c .write-fraction .ensures after ok)

@@ -1,21 +1,19 @@
-use mathlib.Core.Path.{sym, ap, _∙_}
-use mathlib.Core.List.{[], _∷_}
+use mathlib.Core.Path.{refl}
+use mathlib.Core.Bool.{true}
 use native.Mathlib.Omega.{arith}
-use Rattle.std.specs.Of.String.{string-bytes}
-use Rattle.std.proofs.shelf.Lists.{append-nil}
-use Rattle.listing.proofs.NumeralLaws.{numeral-none, numeral-room, numeral-written}
+use Prim.Native.Nat.{_-_, _/_}
+use lib.Utf8.{encode}
+use Rattle.listing.specs.Texts.{numeralText}
+use Rattle.listing.proofs.TextLaws.{put-none, put-both, numeral-none, numeral-last}
 use Rattle.listing.proofs.numerals.+write_numeral.Needs as need
 
 pub returns-then-count-eq0 : need.returns-then-count-eq0
-returns-then-count-eq0 t c =
-    ([], sym (append-nil (string-bytes (c .args .text .now))), numeral-none (c .args .base) (c .args .count) (c .args .number) (c .if-count-eq0 .taken) (c .pre .fits))
-
-pub write-numeral-requires : need.write-numeral-requires
-write-numeral-requires t c κs =
-    (omega (arith, c .measured), (c .pre .base .0, (c .pre .base .1, numeral-room (c .args .base) (c .args .count) (c .args .number) (c .pre .base .0) (omega (arith, c .if-count-eq0 .left)) (c .pre .fits))))
+returns-then-count-eq0 g t c plain ok =
+    put-none (g .W·Write .took) (c .args .f .now) (numeralText (c .args .base) (c .args .count) (c .args .number)) (numeral-none (c .args .base) (c .args .count) (c .args .number) (c .if-count-eq0 .taken)) plain
 
 pub returns : need.returns
-returns t c =
-    numeral-written (c .push .result) (c .args .base) (c .args .count) (c .args .number) (string-bytes (c .args .text .now)) _ _ _
-    (c .pre .base .0) (omega (arith, c .if-count-eq0 .left)) (c .in-Continue-write-numeral .ensures tt) (c .push .ensures .bytes)
-    (c .push .ensures .ascii (c .digit-char .ensures .1) ∙ ap (λ x. x ∷ []) (c .digit-char .ensures .0))
+returns g t c plain ok =
+    put-both (g .W·Write .took) (c .args .f .now) (c .write-numeral .last .f) (c .write-char .last .self)
+    (numeralText (c .args .base) (c .args .count - 1) (c .args .number / c .args .base)) (encode (c .digit-char .result)) (numeralText (c .args .base) (c .args .count) (c .args .number))
+    (numeral-last (c .args .base) (c .args .count) (c .args .number) (c .digit-char .result) (omega (arith, c .if-count-eq0 .left)) (c .digit-char .ensures .0) (c .digit-char .ensures .1))
+    (c .in-Continue-write-numeral .ensures tt plain (refl {a = true})) (λ after. c .write-char .ensures .prints after ok)

@@ -1,4 +1,4 @@
 use Rattle.listing.proofs.numerals.+write_numeral.Given as given
 
 abbrev pub μ-write-numeral : given.MeasureT-write-numeral
-μ-write-numeral l = l .count
+μ-write-numeral g l = l .count
