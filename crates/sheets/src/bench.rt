@@ -2,14 +2,21 @@
 ghost use mathlib.Core.List.{[]};
 ghost use mathlib.Core.Path.{_≡_};
 ghost use Prim.Native.Nat.{ℕ, _+_, _<_, _≤_};
+ghost use Rattle.formats.specs.AnyFormat.{meaningOf};
 ghost use Rattle.formats.specs.Refusals.{numberOf};
 ghost use Rattle.records.specs.Bodies.{signedByte, clearFields, addFields, dotFields, joinFields, readFields};
 ghost use Rattle.records.specs.Fields.{fieldsOf};
+ghost use Rattle.registers.specs.Calls.{Bounded, Answers};
 ghost use Rattle.registers.specs.Histories.{Book};
+ghost use Rattle.registers.specs.Runs.{dotOffer};
 ghost use Rattle.sheets.specs.Steps.{AllBounded, Keeps, Performs, Placed};
 use crate::line::Line;
+use formats::any::AnyFormat;
 use formats::any::AnyFormatFormat;
+use formats::binary16::Binary16Format;
 use formats::fault::Fault;
+use formats::format::Format;
+use formats::p3109::P3109Format;
 use records::fault::RecordFault;
 use records::fields::format_at;
 use records::fields::mode_at;
@@ -100,11 +107,8 @@ impl Bench {
         let register = register_at(4, register)?;
         let x_format = format_at(5, x_format)?;
         let y_format = format_at(6, y_format)?;
-        placed(
-            8,
-            self.registers[register]
-                .dot(&x_format, &y_format, signed(scale), pairs),
-        )
+        let register = &mut self.registers[register];
+        placed(8, dot(register, x_format, y_format, signed(scale), pairs))
     }
 
     fn join(&mut self, register: u8, other: u8) -> Result<Option<Line>, RecordFault>
@@ -158,6 +162,41 @@ fn placed(codes: usize, answer: Result<(), Fault>) -> Result<Option<Line>, Recor
             };
             Err(RecordFault::Arithmetic(offset, fault))
         }
+    }
+}
+
+// The products of a run. The formats are told apart before the loop over the pairs, and not in it.
+fn dot(
+    register: &mut Register,
+    x_format: AnyFormat,
+    y_format: AnyFormat,
+    scale: i8,
+    pairs: &[u8],
+) -> Result<(), Fault>
+    requires { ⌜ Bounded (now register) ⌝ }
+    ensures bounded { λ _. ⌜ Bounded (now (register .exit)) ⌝ }
+    ensures answers { λ r. ⌜ Answers (dotOffer (meaningOf «x_format») (meaningOf «y_format») scale (now (pairs .entry))) (now (register .entry)) r (now (register .exit)) ⌝ }
+{
+    match x_format {
+        AnyFormat::OfP3109(x) => dot_with(register, &x, y_format, scale, pairs),
+        AnyFormat::OfBinary16(x) => dot_with(register, &x, y_format, scale, pairs),
+    }
+}
+
+fn dot_with<F: Format>(
+    register: &mut Register,
+    x_format: &F,
+    y_format: AnyFormat,
+    scale: i8,
+    pairs: &[u8],
+) -> Result<(), Fault>
+    requires { ⌜ Bounded (now register) ⌝ }
+    ensures bounded { λ _. ⌜ Bounded (now (register .exit)) ⌝ }
+    ensures answers { λ r. ⌜ Answers (dotOffer (F·Format .meaning (now («x_format» .entry))) (meaningOf «y_format») scale (now (pairs .entry))) (now (register .entry)) r (now (register .exit)) ⌝ }
+{
+    match y_format {
+        AnyFormat::OfP3109(y) => register.dot(x_format, &y, scale, pairs),
+        AnyFormat::OfBinary16(y) => register.dot(x_format, &y, scale, pairs),
     }
 }
 
