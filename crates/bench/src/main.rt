@@ -28,13 +28,13 @@ fn main(rt: LibcRuntime) -> Result<(), AnyError> {
 fn run(rt: &LibcRuntime) -> Result<(), AnyError> {
     for word in env::args(rt)?.skip(1) {
         if word.as_str() == "--help" {
-            return print(rt, HELP);
+            return print(rt, HELP.as_bytes());
         }
         return Err("an argument that is not --help; the sheet is read from standard input".into());
     }
     let sheet = input(rt)?;
     let report = printed(rt.alloc(), sheet.as_slice())?;
-    print(rt, report.as_str())
+    print(rt, report.as_slice())
 }
 
 // Standard input to its end; what is past the first bytes is read and let go.
@@ -54,7 +54,7 @@ fn input(rt: &LibcRuntime) -> Result<Vec<u8>, AnyError> {
 }
 
 // The whole text in one piece.
-fn print(rt: &LibcRuntime, text: &str) -> Result<(), AnyError> {
-    rt.stdout().write_all(text.as_bytes())?;
+fn print(rt: &LibcRuntime, text: &[u8]) -> Result<(), AnyError> {
+    rt.stdout().write_all(text)?;
     Ok(())
 }

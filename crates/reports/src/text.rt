@@ -1,15 +1,13 @@
 // The text of a report, a newline after each line.
 ghost use mathlib.Core.Bool.{false};
-ghost use mathlib.Core.List.{List, [], _∷_, _++_};
+ghost use mathlib.Core.List.{_++_};
 ghost use mathlib.Core.Path.{_≡_};
-ghost use Prim.Native.Nat.{ℕ, _+_, _/_, _%_, _<_, _≤_};
-ghost use lib.Chars.{codes};
+ghost use Prim.Native.Nat.{_<_};
 ghost use Rattle.std.specs.Of.String.{string-bytes};
 ghost use Rattle.std.specs.Of.Vec.{vec-items};
 ghost use Rattle.std.specs.Vec.{made};
-ghost use Rattle.std.specs.Written.{glyph};
-ghost use Rattle.formats.specs.Refusals.{numberOf, placeOf};
-ghost use Rattle.records.specs.Refusals.{refusalOf};
+ghost use Rattle.std.specs.Written.{decimal, glyph};
+ghost use Rattle.formats.specs.Refusals.{numberOf};
 ghost use Rattle.sheets.specs.Faults.{sheetRefusal, stopRefusal, ended};
 ghost use Rattle.sheets.specs.Sheets.{reported};
 ghost use Rattle.reports.specs.Texts.{hexadecimal, markWord, layerWord, lineText, faultText, linesText, endText, reportText};
@@ -25,55 +23,71 @@ use std::alloc::AllocError;
 use std::alloc::Global;
 
 // The text of a sheet's report.
-pub fn printed(heap: Global, sheet: &[u8]) -> Result<String, AllocError>
-    ensures { λ r. ⌜ made r (λ s. string-bytes s ≡ reportText (reported (now (sheet .entry)))) ⌝ }
+pub fn printed(heap: Global, sheet: &[u8]) -> Result<Vec<u8>, AllocError>
+    ensures { λ r. ⌜ made r (λ v. vec-items v ≡ reportText (reported (now (sheet .entry)))) ⌝ }
 {
     let report = run(heap, sheet)?;
     text(heap, &report)
 }
 
 // The lines of a report, and the line of its fault, if it has one.
-pub fn text(heap: Global, report: &Report) -> Result<String, AllocError>
-    ensures { λ r. ⌜ made r (λ s. string-bytes s ≡ linesText (vec-items (now (report .entry) .lines)) ++ endText (ended (now (report .entry) .fault))) ⌝ }
+pub fn text(heap: Global, report: &Report) -> Result<Vec<u8>, AllocError>
+    ensures { λ r. ⌜ made r (λ v. vec-items v ≡ linesText (vec-items (now (report .entry) .lines)) ++ endText (ended (now (report .entry) .fault))) ⌝ }
 {
-    let mut text = String::new(heap);
-    write_lines(heap, &mut text, report.lines.as_slice())?;
+    let mut text = Vec::new(heap);
+    write_lines(&mut text, report.lines.as_slice())?;
     if let Some(stop) = &report.fault {
-        text.push_str(fault_text(heap, stop)?.as_str())?;
+        text.extend_from_slice(fault_text(heap, stop)?.as_bytes())?;
     }
     Ok(text)
 }
 
-fn write_lines(heap: Global, text: &mut String, lines: &[Line]) -> Result<(), AllocError>
-    ensures { λ r. ⌜ made r (λ _. string-bytes (now (text .exit)) ≡ string-bytes (now (text .entry)) ++ linesText (now (lines .entry))) ⌝ }
+fn write_lines(text: &mut Vec<u8>, lines: &[Line]) -> Result<(), AllocError>
+    ensures { λ r. ⌜ made r (λ _. vec-items (now (text .exit)) ≡ vec-items (now (text .entry)) ++ linesText (now (lines .entry))) ⌝ }
 {
     for line in lines {
-        text.push_str(line_text(heap, line)?.as_str())?;
+        write_line(text, line)?;
     }
     Ok(())
 }
 
-fn line_text(heap: Global, line: &Line) -> Result<String, AllocError>
-    ensures { λ r. ⌜ made r (λ s. string-bytes s ≡ lineText (now (line .entry))) ⌝ }
+fn write_line(text: &mut Vec<u8>, line: &Line) -> Result<(), AllocError>
+    ensures { λ r. ⌜ made r (λ _. vec-items (now (text .exit)) ≡ vec-items (now (text .entry)) ++ lineText (now (line .entry))) ⌝ }
 {
-    let record = line.record;
-    let register = line.register;
-    let code = hexadecimal(heap, line.code)?;
-    let count = line.count;
-    let word = mark_word(line.mark);
-    format!(heap, "{record} {register} {code} {count} {word}\n")
+    write_decimal(text, line.record)?;
+    text.push(b' ')?;
+    write_decimal(text, line.register as u32)?;
+    text.push(b' ')?;
+    write_hexadecimal(text, line.code)?;
+    text.push(b' ')?;
+    write_decimal(text, line.count)?;
+    text.push(b' ')?;
+    text.extend_from_slice(mark_word(line.mark).as_bytes())?;
+    text.push(b'\n')?;
+    Ok(())
 }
 
-fn hexadecimal(heap: Global, code: u16) -> Result<String, AllocError>
-    ensures { λ r. ⌜ made r (λ s. string-bytes s ≡ hexadecimal code) ⌝ }
+fn write_decimal(text: &mut Vec<u8>, number: u32) -> Result<(), AllocError>
+    ensures { λ r. ⌜ made r (λ _. vec-items (now (text .exit)) ≡ vec-items (now (text .entry)) ++ decimal number) ⌝ }
 {
-    let first = digit(code / 4096);
-    let second = digit(code / 256 % 16);
-    let third = digit(code / 16 % 16);
-    let fourth = digit(code % 16);
-    format!(heap, "{first}{second}{third}{fourth}")
+    if number >= 10 {
+        write_decimal(text, number / 10)?;
+    }
+    text.push(b'0' + (number % 10) as u8)?;
+    Ok(())
 }
 
+fn write_hexadecimal(text: &mut Vec<u8>, code: u16) -> Result<(), AllocError>
+    ensures { λ r. ⌜ made r (λ _. vec-items (now (text .exit)) ≡ vec-items (now (text .entry)) ++ hexadecimal code) ⌝ }
+{
+    text.push(digit(code / 4096))?;
+    text.push(digit(code / 256 % 16))?;
+    text.push(digit(code / 16 % 16))?;
+    text.push(digit(code % 16))?;
+    Ok(())
+}
+
+// A sheet has one fault at most, so its line need not be quick; its place may exceed 64 bits.
 fn fault_text(heap: Global, stop: &Stop) -> Result<String, AllocError>
     ensures { λ r. ⌜ made r (λ s. string-bytes s ≡ faultText (stopRefusal (now (stop .entry)))) ⌝ }
 {
@@ -146,26 +160,13 @@ fn offset_of(fault: &SheetFault) -> u128
 }
 
 // The digit of a number below 16.
-fn digit(number: u16) -> &'static str
+fn digit(number: u16) -> u8
     requires { ⌜ number < 16 ⌝ }
-    ensures { λ r. ⌜ r .now ≡ glyph false number ∷ [] ⌝ }
+    ensures { λ r. ⌜ r ≡ glyph false number ⌝ }
 {
-    match number {
-        0 => "0",
-        1 => "1",
-        2 => "2",
-        3 => "3",
-        4 => "4",
-        5 => "5",
-        6 => "6",
-        7 => "7",
-        8 => "8",
-        9 => "9",
-        10 => "a",
-        11 => "b",
-        12 => "c",
-        13 => "d",
-        14 => "e",
-        _ => "f",
+    if number < 10 {
+        b'0' + number as u8
+    } else {
+        b'a' + (number - 10) as u8
     }
 }

@@ -8,7 +8,7 @@ mod tests {
         let Ok(text) = printed(rt.alloc(), sheet) else {
             return Err(Fail::new("no memory"));
         };
-        check(text.as_str() == expected)
+        check(text.as_slice() == expected.as_bytes())
     }
 
     const SHEETS: [(&[u8], &str); 19] = [
