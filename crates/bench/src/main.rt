@@ -42,7 +42,7 @@ fn input(rt: &LibcRuntime) -> Result<Vec<u8>, AnyError> {
     let mut sheet = Vec::new(rt.alloc());
     let mut stdin = rt.stdin();
     for _ in 0..u64::MAX {
-        let mut buffer = [0u8; 8192];
+        let mut buffer = [0u8; 1024];
         let count = stdin.read(&mut buffer)?;
         if count == 0 {
             break;

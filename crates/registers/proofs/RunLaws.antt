@@ -1,6 +1,6 @@
 -- The terms of a run of pairs, pair after pair.
 use mathlib.Core.Path.{_≡_, refl, sym, ap, ap₂, _∙_, subst}
-use mathlib.Core.Bool.{true}
+use mathlib.Core.Bool.{Bool, true}
 use mathlib.Core.List.{List, [], _∷_, _++_}
 use Prim.Native.Nat.{ℕ, zero, suc, _+_, _-_, _*_, _/_, _^_, _<_, _≤_}
 use native.Mathlib.Nat.{div-mul-le-self, mul-le-mul, mul-le-mul-right, add-mul}
@@ -12,12 +12,12 @@ use Rattle.std.proofs.shelf.Signed.{ints}
 use Rattle.std.proofs.shelf.Tests.{lt-ltb}
 use Rattle.std.specs.declared.result.Result.the-variants.{Ok, Err}
 use Rattle.formats.specs.Meaning.{Meaning}
-use Rattle.formats.specs.Value.{Value, finite}
+use Rattle.formats.specs.Value.{Value, finite, signed}
 use Rattle.formats.specs.declared.fault.Fault.{Fault}
 use Rattle.sums.specs.Exact.{plus}
 use Rattle.sums.specs.Sums.{value, size, Sound}
 use Rattle.sums.specs.declared.sum.Sum.{Sum}
-use Rattle.sums.proofs.SizeBound.{finite-size}
+use Rattle.sums.proofs.SizeBound.{term-size, finite-size}
 use Rattle.terms.specs.Offers.{terms, ScaleFits, scaleFits, pairTerm, productOffer, Offers}
 use Rattle.terms.specs.Readings.{termValue}
 use Rattle.terms.specs.Terms.{exactSum}
@@ -126,3 +126,7 @@ pub all-gathered : (m n : Meaning) (s : ℤ) (run : List ℕ) (b : Batch) → So
 all-gathered m n s run b far count =
     subst (λ x. Gathers (unlessBad x (terms (pairTerms m n s run (pairs m n run)))) (Ok b)) (sym (far .clean))
     (count ∙ sym (pairs-count m n s run (pairs m n run)), far .summed)
+
+-- a finite term below 2^191 raises the size by no more
+pub finite-grows : (old new : Sum) (n : ℕ) (negative : Bool) → Sound old → Sound new → value new ≡ plus (value old) (finite (signed negative n)) → n < 2 ^ 191 → size new ≤ size old + 2 ^ 191
+finite-grows old new n negative g h is small = omega (arith, term-size old new n negative g h is)

@@ -52,7 +52,11 @@ fn gathered<F: Format, G: Format>(
     for i in 0..count {
         let (x, y) = pairs.at(run, i)?;
         let term = Term::product(x_format, y_format, scale, x, y)?;
-        term.add_to(&mut sum);
+        // Mostly the term is finite, and then only its three parts go to the sum.
+        match term {
+            Term::Finite(term) => sum.add_term(term.negative, term.digits, term.place),
+            _ => term.add_to(&mut sum),
+        }
     }
     Ok(Batch { count, sum })
 }

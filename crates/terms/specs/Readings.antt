@@ -1,9 +1,11 @@
 -- Readings and terms as the code holds them, by their values.
-use mathlib.Core.Bool.{true, false}
+use mathlib.Core.Bool.{Bool, true, false, _&&_}
 use mathlib.Core.Path.{_≡_}
 use Prim.Native.Nat.{ℕ, _*_, _^_, _<_, _≤_}
 use lib.IntN.{ℤ, pos, negsuc, _+ℤ_, natAbs}
 use lib.Signed.{_≤ℤ_}
+use Rattle.std.specs.declared.option.Option.{Option}
+use Rattle.std.specs.declared.option.Option.the-variants.{Some, None}
 use Rattle.std.specs.declared.result.Result.{Result}
 use Rattle.std.specs.declared.result.Result.the-variants.{Ok, Err}
 use Rattle.formats.specs.Meaning.{Meaning}
@@ -49,3 +51,19 @@ abbrev pub termValue : Term → Value
 termValue the-variants.Nan = nan
 termValue (the-variants.Infinite negative) = infinite negative
 termValue (the-variants.Finite t) = finite (signed (t .negative) (t .digits * 2 ^ t .place))
+
+abbrev pub isFinite : Reading → Bool
+isFinite Nan = false
+isFinite PositiveInfinity = false
+isFinite NegativeInfinity = false
+isFinite (Finite d) = true
+
+abbrev pub bothFinite : Reading → Reading → Bool
+bothFinite x y = isFinite x && isFinite y
+
+-- the sign of a reading; NaN and zero have none
+abbrev pub Signed : Reading → Option Bool → Type 0
+Signed Nan r = r ≡ None
+Signed PositiveInfinity r = r ≡ Some false
+Signed NegativeInfinity r = r ≡ Some true
+Signed (Finite d) r = (d .significand ≡ 0 → r ≡ None) × (0 < d .significand → r ≡ Some (d .negative))

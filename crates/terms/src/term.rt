@@ -1,13 +1,14 @@
 // A term of a sum.
+ghost use mathlib.Core.Bool.{false};
 ghost use mathlib.Core.Path.{_≡_};
-ghost use Prim.Native.Nat.{_+_, _*_, _^_, _<_, _≤_};
+ghost use Prim.Native.Nat.{ℕ, _+_, _*_, _^_, _<_, _≤_};
 ghost use lib.IntN.{pos, _+ℤ_, natAbs};
 ghost use Rattle.formats.specs.Value.{finite};
 ghost use Rattle.sums.specs.Exact.{plus};
 ghost use Rattle.sums.specs.Sums.{value, Sound, size};
 ghost use Rattle.terms.specs.Offers.{ScaleFits, addOffer, productOffer, Offers};
-ghost use Rattle.terms.specs.Readings.{units, unitsOf, Small, SmallValue, Reads, termValue};
-ghost use Rattle.terms.specs.Terms.{single, product, timesInfinity};
+ghost use Rattle.terms.specs.Readings.{units, unitsOf, Small, SmallValue, Reads, termValue, bothFinite, Signed};
+ghost use Rattle.terms.specs.Terms.{single, product};
 ghost use Rattle.terms.specs.declared.term.Term.the-variants.{Finite};
 use crate::scaled::Scaled;
 use formats::fault::Fault;
@@ -102,30 +103,34 @@ fn of_readings(x: Reading, y: Reading, scale: i8) -> Term
     requires { ⌜ Small x ⌝ ∗ ⌜ Small y ⌝ ∗ ⌜ ScaleFits scale ⌝ }
     ensures { λ r. ⌜ termValue r ≡ product (natAbs (scale +ℤ pos 32)) (units x) (units y) ⌝ }
 {
-    match (x, y) {
-        (Reading::Finite(x), Reading::Finite(y)) => Term::Finite(multiplied(x, y, scale)),
-        (Reading::Nan, _) => Term::Nan,
-        (_, Reading::Nan) => Term::Nan,
-        (Reading::Finite(x), Reading::PositiveInfinity) => times_infinity(false, x),
-        (Reading::Finite(x), Reading::NegativeInfinity) => times_infinity(true, x),
-        (Reading::PositiveInfinity, Reading::Finite(y)) => times_infinity(false, y),
-        (Reading::NegativeInfinity, Reading::Finite(y)) => times_infinity(true, y),
-        (Reading::PositiveInfinity, Reading::PositiveInfinity) => Term::Infinite(false),
-        (Reading::PositiveInfinity, Reading::NegativeInfinity) => Term::Infinite(true),
-        (Reading::NegativeInfinity, Reading::PositiveInfinity) => Term::Infinite(true),
-        (Reading::NegativeInfinity, Reading::NegativeInfinity) => Term::Infinite(false),
+    if let (Reading::Finite(x), Reading::Finite(y)) = (x, y) {
+        return Term::Finite(multiplied(x, y, scale));
+    }
+    of_special(x, y)
+}
+
+// The product where one of the readings is not finite: an infinity with the sign of both, or NaN
+// where one is NaN or zero.
+fn of_special(x: Reading, y: Reading) -> Term
+    ensures { λ r. ⌜ (bothFinite x y ≡ false → (up : ℕ) → termValue r ≡ product up (units x) (units y)) ⌝ }
+{
+    match (sign(x), sign(y)) {
+        (None, _) => Term::Nan,
+        (Some(_), None) => Term::Nan,
+        (Some(x), Some(y)) => Term::Infinite(x != y),
     }
 }
 
-// An infinity times a finite value: NaN at zero.
-fn times_infinity(negative: bool, value: Dyadic) -> Term
-    requires { ⌜ SmallValue value ⌝ }
-    ensures { λ r. ⌜ termValue r ≡ timesInfinity negative (unitsOf value) ⌝ }
+// The sign of a reading, true for the negative one; NaN and zero have none.
+fn sign(reading: Reading) -> Option<bool>
+    ensures { λ r. ⌜ Signed reading r ⌝ }
 {
-    if value.significand == 0 {
-        Term::Nan
-    } else {
-        Term::Infinite(negative != value.negative)
+    match reading {
+        Reading::Nan => None,
+        Reading::PositiveInfinity => Some(false),
+        Reading::NegativeInfinity => Some(true),
+        Reading::Finite(value) if value.significand == 0 => None,
+        Reading::Finite(value) => Some(value.negative),
     }
 }
 

@@ -1,5 +1,5 @@
 use mathlib.Core.Path.{_≡_, sym, ap, _∙_, subst}
-use Prim.Native.Nat.{_/_, _^_, _<_}
+use Prim.Native.Nat.{_+_, _/_, _^_, _<_, _≤_}
 use native.Mathlib.Omega.{arith}
 use lib.ListN.{length}
 use mir.Syntax.{w8}
@@ -7,13 +7,17 @@ use mir.Val.{toZ, ofZ}
 use Rattle.std.proofs.shelf.Results.{err-from-errBy}
 use Rattle.std.proofs.shelf.Signed.{toZ-ofZ}
 use Rattle.std.specs.declared.result.Result.the-variants.{Ok}
+use Rattle.sums.specs.Exact.{plus}
+use Rattle.sums.specs.Sums.{value, size, Sound}
+use Rattle.sums.specs.declared.sum.Sum.{Sum}
 use Rattle.terms.specs.Offers.{ScaleFits}
 use Rattle.terms.specs.Readings.{termValue}
 use Rattle.registers.specs.Batches.{Gathers}
 use Rattle.registers.specs.PairReads.{bytesOfPair, wholeOffer}
 use Rattle.registers.specs.Runs.{pairs}
 use Rattle.registers.specs.declared.batch.Batch.{Batch}
-use Rattle.registers.proofs.RunLaws.{SoFar, bytes-of, so-far-none, so-far-more, product-term, product-stands, in-run, room, pair-refused, all-gathered}
+use Rattle.registers.proofs.RunLaws.{SoFar, finite-grows, bytes-of, so-far-none, so-far-more, product-term, product-stands, in-run, pair-refused, all-gathered}
+use Rattle.registers.proofs.products.gathered.Needs.{in-Finite, in-rest}
 use Rattle.registers.proofs.products.gathered.Needs as need
 
 pub loop-i-holds : need.loop-i-holds
@@ -27,15 +31,6 @@ at-requires g c κs =
           (subst (λ b. c .loop-i .i < length (c .args .run .now) / b) (c .bytes .ensures) (c .loop-i-test .taken));
     }
 
-pub add-to-requires : need.add-to-requires
-add-to-requires g c κs =
-    let long : length (c .args .run .now) < 2 ^ 64 = omega arith in
-    record {
-      sound = c .loop-i .inv .sound;
-      fits = room (c .loop-i .i) (length (c .args .run .now)) _ (c .args .pairs) (c .loop-i .inv .bound)
-          (subst (λ b. c .loop-i .i < length (c .args .run .now) / b) (c .bytes .ensures) (c .loop-i-test .taken)) long;
-    }
-
 pub loop-i-again : need.loop-i-again
 loop-i-again g c =
     let m = g .F·Format .meaning (c .args .x-format .now) in
@@ -44,8 +39,20 @@ loop-i-again g c =
     let scale = subst ScaleFits (sym (toZ-ofZ w8 (c .args .scale) (c .fits .scale))) (c .pre .scale) in
     let both = c .in-Continue-x .ensures tt m n (c .pre .of) in
     let term = product-term m n s (c .args .run .now) (c .loop-i .i) _ _ (c .in-Continue-term .term) scale both (c .in-Continue-term .ensures tt) in
-    so-far-more m n s (c .args .run .now) (c .loop-i .i) _ _ (termValue (c .in-Continue-term .term)) (c .loop-i .sum) (c .add-to .last .sum)
-    (c .loop-i .inv) both term (c .add-to .ensures .value) (c .add-to .ensures .sound) (c .add-to .ensures .size)
+    let old = c .loop-i .sum in
+    let more : (new : Sum) → value new ≡ plus (value old) (termValue (c .in-Continue-term .term)) → Sound new → size new ≤ size old + 2 ^ 191 → SoFar m n s (c .args .run .now) (c .loop-i .i + 1) new =
+    λ new is sound small. so-far-more m n s (c .args .run .now) (c .loop-i .i) _ _ (termValue (c .in-Continue-term .term)) old new (c .loop-i .inv) both term is sound small in
+    elim (c .match-term .came) [
+      | in-Finite w ↦
+          subst (SoFar m n s (c .args .run .now) (c .loop-i .i + 1)) (sym (w .sum-is))
+          (more (w .add-term .last .self)
+          (subst (λ t. value (w .add-term .last .self) ≡ plus (value old) (termValue t)) (sym (w .in-Finite .is)) (w .add-term .ensures .value))
+          (w .add-term .ensures .sound)
+          (finite-grows old (w .add-term .last .self) _ _ (c .loop-i .inv .sound) (w .add-term .ensures .sound) (w .add-term .ensures .value) (w .in-Finite .term .small)))
+      | in-rest w ↦
+          subst (SoFar m n s (c .args .run .now) (c .loop-i .i + 1)) (sym (w .sum-is))
+          (more (w .add-to .last .sum) (w .add-to .ensures .value) (w .add-to .ensures .sound) (w .add-to .ensures .size))
+    ]
 
 pub returns-in-Break-x : need.returns-in-Break-x
 returns-in-Break-x g c =
