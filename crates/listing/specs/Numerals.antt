@@ -42,7 +42,3 @@ pub record Grouped (k p c : ℕ) (text : List ℕ) : Type 0 where
   pub exponent-is : Numeral 2 (k - p) (c / 2 ^ (p - 1) % 2 ^ (k - p)) exponent
   pub fraction-is : Numeral 2 (p - 1) (c % 2 ^ (p - 1)) fraction
   pub spelled : text ≡ sign ++ (codes "_" ++ (exponent ++ (codes "_" ++ fraction)))
-
--- a text with more after it, of which P holds
-abbrev pub Appended : List ℕ → (List ℕ → Type 0) → List ℕ → Type 0
-Appended before P after = (more : List ℕ) × (after ≡ before ++ more) × P more
