@@ -1,4 +1,6 @@
 // Formats of one meaning cannot be told apart by what they answer.
+#![tactic(auto)]
+
 ghost use Rattle.std.specs.Prelude.{◌≡◌, ℕ, true, Result};
 ghost use Rattle.formats.specs.Meaning.{Meaning};
 ghost use Rattle.formats.specs.Readings.{Decodes};

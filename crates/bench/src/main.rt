@@ -1,4 +1,6 @@
 // Reads a sheet from standard input, runs it, and prints its report.
+#![tactic(auto)]
+
 use anyhow::anyhow;
 use reports::text::printed;
 use std::io::{Read, Write};

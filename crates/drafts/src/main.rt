@@ -1,4 +1,6 @@
 // Compares the figures that the public P3109 reports print with what the formats answer.
+#![tactic(auto)]
+
 mod compare;
 mod printed;
 mod survey;

@@ -1,4 +1,6 @@
 // Figures worked out by hand, to which the definitions are held.
+#![tactic(auto)]
+
 ghost use Rattle.std.specs.Prelude.{◌≡◌, length};
 ghost use Rattle.figures.specs.Figures.{figures, FiguresHold};
 

@@ -1,5 +1,5 @@
 -- IEEE 754 binary16.
-use Rattle.std.specs.Prelude.{ℕ, ◌+◌, ◌-◌, ◌*◌, ◌^◌, Bool, true, false, cond, ℤ, pos, negsuc, ◌==◌, nat_lt}
+use Rattle.std.specs.Prelude.{ℕ, ◌+◌, ◌-◌, ◌*◌, ◌^◌, false, cond, pos, negsuc, ◌==◌, nat_lt}
 use Rattle.layout.specs.Sizes.{size_at}
 use Rattle.formats.specs.Value.{Value, nan, infinite, finite, negated}
 use Rattle.formats.specs.Meaning.{Meaning}

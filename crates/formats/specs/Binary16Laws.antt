@@ -1,13 +1,13 @@
 -- Binary16.
-use Rattle.std.specs.Prelude.{◌≡◌, ℕ, ◌+◌, ◌-◌, ◌*◌, ◌%◌, ◌^◌, ◌<◌, ◌≤◌, Bool, true, false, cond, ◌⊎◌, ℤ, pos, negsuc, neg_ℤ, ◌≤ℤ◌, ◌==◌, ◌≢◌, unsigned_abs, refl}
-use Rattle.std.proofs.Common.{sym, ap, ◌∙◌, inl, inr, ⊎_elim, arith, lit<, lit≤}
+use Rattle.std.specs.Prelude.{◌≡◌, ℕ, ◌+◌, ◌-◌, ◌*◌, ◌^◌, ◌<◌, ◌≤◌, Bool, true, false, ℤ, pos, neg_ℤ, ◌==◌, ◌≢◌, unsigned_abs, refl}
+use Rattle.std.proofs.Common.{sym, ap, ◌∙◌, ⊎_elim, arith, lit<, lit≤}
 use Rattle.std.specs.Int.Signed.{le_z_yes}
 use Rattle.std.proofs.lemmas.Int.{ints}
 use Rattle.std.proofs.lemmas.Bool.{cases_lt, cond_both, lt-ltb, le-ltb}
-use Rattle.layout.specs.Sizes.{bottom, size_at}
-use Rattle.formats.specs.Binary16.{magnitude, decode, encode, binary16}
-use Rattle.formats.specs.Meaning.{Meaning, Coded, Lawful}
-use Rattle.formats.specs.Value.{Value, nan, infinite, finite, signed, negated}
+use Rattle.layout.specs.Sizes.{size_at}
+use Rattle.formats.specs.Binary16.{magnitude, decode, binary16}
+use Rattle.formats.specs.Meaning.{Coded, Lawful}
+use Rattle.formats.specs.Value.{nan, infinite, finite, negated}
 use Rattle.formats.specs.SignLaws.{SignMagnitude, lawful}
 use Rattle.formats.specs.ValueLaws.{same_finite, not_infinite, not_nan, negated_twice}
 

@@ -10,3 +10,4 @@ pub mod Binary16Laws
 pub mod SignLaws
 pub mod ValueLaws
 pub mod P3109Laws
+pub mod OwnFacts

@@ -1,5 +1,5 @@
 -- The signed P3109 formats with infinities, by width K and precision P (IEEE P3109 interim report 3.0.2).
-use Rattle.std.specs.Prelude.{◌≡◌, ℕ, ◌+◌, ◌-◌, ◌*◌, ◌^◌, ◌<◌, ◌≤◌, Bool, true, false, cond, ℤ, pos, ◌-ℤ◌, ◌==◌, nat_lt}
+use Rattle.std.specs.Prelude.{◌≡◌, ℕ, ◌+◌, ◌-◌, ◌*◌, ◌^◌, ◌<◌, ◌≤◌, true, false, cond, ℤ, pos, ◌-ℤ◌, ◌==◌, nat_lt}
 use Rattle.layout.specs.Sizes.{bottom, size_at}
 use Rattle.formats.specs.Value.{Value, nan, infinite, finite, negated}
 use Rattle.formats.specs.Meaning.{Meaning}

@@ -1,18 +1,17 @@
 -- The P3109 formats, by width k and precision p.
-use Rattle.std.specs.Prelude.{◌≡◌, ℕ, zero, suc, ◌+◌, ◌-◌, ◌*◌, ◌/◌, ◌^◌, ◌<◌, ◌≤◌, Bool, true, false, cond, ◌⊎◌, ℤ, pos, negsuc, neg_ℤ, ◌≤ℤ◌, Some, Ok, unsigned_abs, refl}
-use Rattle.std.proofs.Common.{sym, ap, subst, ◌∙◌, inl, inr, ⊎_elim, pow-suc, add-mul, arith, pow_pos, pow_mono, pow-add, shr_lt}
+use Rattle.std.specs.Prelude.{◌≡◌, ℕ, suc, ◌+◌, ◌-◌, ◌*◌, ◌/◌, ◌^◌, ◌<◌, ◌≤◌, Bool, true, false, ℤ, pos, negsuc, neg_ℤ, ◌≤ℤ◌, Some, Ok, unsigned_abs, refl}
+use Rattle.std.proofs.Common.{sym, ap, ◌∙◌, inl, ⊎_elim, pow-suc, add-mul, arith, pow_pos, pow_mono, pow-add, shr_lt}
 use Rattle.std.proofs.lemmas.Int.{ints}
 use Rattle.std.proofs.lemmas.Bool.{cases_lt, lt-ltb, le-ltb, eq-eqb, ne_eqb}
 use Rattle.layout.specs.Codes.{SizeAt}
 use Rattle.layout.specs.Sizes.{bottom, size_at}
 use Rattle.layout.specs.declared.Size.{Size}
 use Rattle.layout.proofs.SizeLaws.{twice, size_packed, size_rises}
-use Rattle.formats.specs.Value.{Value, nan, infinite, finite, signed, negated, finer}
-use Rattle.formats.specs.Meaning.{Meaning, Coded, Lawful}
-use Rattle.formats.specs.P3109.{Exists, bias, least, magnitude, decode, encode, Specials, p3109}
+use Rattle.formats.specs.Value.{nan, infinite, finite, negated, finer}
+use Rattle.formats.specs.Meaning.{Coded, Lawful}
+use Rattle.formats.specs.P3109.{Exists, bias, least, magnitude, decode, Specials, p3109}
 use Rattle.formats.specs.Readings.{Decodes}
 use Rattle.formats.specs.Signs.{Joined}
-use Rattle.formats.specs.declared.p3109.P3109.{P3109}
 use Rattle.formats.specs.declared.reading.Dyadic.{Dyadic}
 use Rattle.formats.specs.declared.reading.Reading.TheVariants.{PositiveInfinity, NegativeInfinity, Finite}
 use Rattle.formats.specs.SignLaws.{SignMagnitude, lawful, decodes}
@@ -164,7 +163,3 @@ module _ (k p : ℕ) (there : Exists k p) where
 
   pub decodes_negative_infinite : (c d n : ℕ) → d < 2 ^ (k - 1) → n ≡ 2 ^ (k - 1) - 1 → n ≤ d → c ≡ 2 ^ (k - 1) + d → Decodes (p3109 k p) c (Ok NegativeInfinity)
   decodes_negative_infinite c d n lt nn le e = (omega (arith, sign_double), sym (ap (finer 96) (reads_negative_infinite c (omega arith))), tt)
-
--- a format's own facts
-pub exists : (f : P3109) → Exists f.width f.precision
-exists f = (f.wide, f.narrow, f.precise, f.short)

@@ -1,11 +1,10 @@
 -- What the answers of a format's two functions mean.
-use Rattle.std.specs.Prelude.{◌≡◌, ℕ, ◌*◌, ◌^◌, ◌<◌, ◌≤◌, Bool, true, false, ℤ, pos, ◌+ℤ◌, Ok, Err, Result, ◌≢◌, unsigned_abs}
+use Rattle.std.specs.Prelude.{◌≡◌, ℕ, ◌*◌, ◌^◌, ◌<◌, ◌≤◌, true, false, pos, ◌+ℤ◌, Ok, Err, Result, ◌≢◌, unsigned_abs}
 use Rattle.layout.specs.Codes.{Normalized}
 use Rattle.formats.specs.Value.{Value, nan, infinite, finite, signed, finer}
 use Rattle.formats.specs.Meaning.{Meaning}
 use Rattle.formats.specs.Refusals.{Refuses}
 use Rattle.formats.specs.declared.fault.Fault.{Fault}
-use Rattle.formats.specs.declared.reading.Dyadic.{Dyadic}
 use Rattle.formats.specs.declared.reading.Reading.{Reading}
 use Rattle.formats.specs.declared.reading.Reading.TheVariants.{Nan, PositiveInfinity, NegativeInfinity, Finite}
 

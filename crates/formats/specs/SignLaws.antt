@@ -1,13 +1,13 @@
 -- Formats with a sign bit over a layout of magnitudes: what they have to show of their meaning, and what follows.
-use Rattle.std.specs.Prelude.{◌≡◌, ℕ, zero, suc, ◌+◌, ◌-◌, ◌*◌, ◌/◌, ◌^◌, ◌<◌, ◌≤◌, Bool, true, false, cond, not, ◌&&◌, ◌⊎◌, ℤ, pos, negsuc, ◌+ℤ◌, ◌*ℤ◌, neg_ℤ, ◌≤ℤ◌, Ok, Err, Result, ◌==◌, ◌≢◌, unsigned_abs, refl}
-use Rattle.std.proofs.Common.{sym, ap, subst, ◌∙◌, inl, inr, ⊎_elim, zero-mul, arith, pow_mono}
+use Rattle.std.specs.Prelude.{◌≡◌, ℕ, zero, suc, ◌+◌, ◌-◌, ◌*◌, ◌/◌, ◌^◌, ◌<◌, ◌≤◌, Bool, true, false, cond, not, ◌&&◌, ℤ, pos, negsuc, ◌+ℤ◌, ◌*ℤ◌, neg_ℤ, ◌≤ℤ◌, Ok, Err, Result, ◌==◌, ◌≢◌, unsigned_abs, refl}
+use Rattle.std.proofs.Common.{sym, ap, subst, ◌∙◌, ⊎_elim, zero-mul, arith, pow_mono}
 use Rattle.std.proofs.Math.Dec.{eqb-suc-zero}
 use Rattle.std.specs.Int.Signed.{non_neg}
 use Rattle.std.proofs.lemmas.Bool.{cases_lt}
 use Rattle.layout.specs.Codes.{Stands}
-use Rattle.layout.specs.Sizes.{bottom, Shaped, size_at, code_of}
+use Rattle.layout.specs.Sizes.{bottom, size_at, code_of}
 use Rattle.layout.specs.declared.Size.{Size}
-use Rattle.layout.proofs.SizeLaws.{size_zero, size_shaped, size_below, size_rises, size_injective, size_code, code_size}
+use Rattle.layout.proofs.SizeLaws.{size_zero, size_shaped, size_below, size_rises, size_code, code_size}
 use Rattle.formats.specs.Value.{Value, nan, infinite, finite, signed, finer}
 use Rattle.formats.specs.Meaning.{Meaning, Representable, Coded, Lawful}
 use Rattle.formats.specs.Readings.{fine, Decodes, Encodes}
@@ -15,7 +15,7 @@ use Rattle.formats.specs.Signs.{signed_code, Joined, size_of, SignCoded}
 use Rattle.formats.specs.declared.fault.Fault.{Fault}
 use Rattle.formats.specs.declared.reading.Dyadic.{Dyadic}
 use Rattle.formats.specs.declared.reading.Reading.{Reading}
-use Rattle.formats.specs.declared.reading.Reading.TheVariants.{Nan, PositiveInfinity, NegativeInfinity, Finite}
+use Rattle.formats.specs.declared.reading.Reading.TheVariants.{Finite}
 use Rattle.formats.specs.ValueLaws.{signed-*, abs-*, abs_signed, signed_abs}
 
 -- the size at a magnitude code of the format

@@ -1,7 +1,6 @@
 -- Codes of a sign bit over a magnitude.
-use Rattle.std.specs.Prelude.{◌≡◌, ℕ, ◌+◌, ◌*◌, ◌^◌, ◌<◌, Bool, true, false, cond, not, ◌&&◌, ℤ, pos, ◌+ℤ◌, Ok, Err, Result, ◌==◌, ◌≢◌, unsigned_abs}
+use Rattle.std.specs.Prelude.{◌≡◌, ℕ, ◌+◌, ◌*◌, ◌^◌, ◌<◌, Bool, cond, not, ◌&&◌, ℤ, pos, ◌+ℤ◌, Ok, Err, Result, ◌==◌, ◌≢◌, unsigned_abs}
 use Rattle.std.specs.Int.Signed.{non_neg}
-use Rattle.layout.specs.Codes.{fine_size}
 use Rattle.layout.specs.Sizes.{code_of, size_at}
 use Rattle.layout.specs.declared.Size.{Size}
 use Rattle.formats.specs.Refusals.{Refuses}

@@ -3,7 +3,8 @@ ghost use Rattle.std.specs.Prelude.{◌≡◌};
 ghost use Rattle.formats.specs.AnyFormat.{meaning_of, ByByte};
 ghost use Rattle.formats.specs.declared.any.AnyFormat.TheVariants.{OfBinary16, OfP3109};
 ghost use Rattle.formats.specs.Binary16Laws.{binary16_lawful};
-ghost use Rattle.formats.specs.P3109Laws.{exists, p3109_lawful};
+ghost use Rattle.formats.specs.OwnFacts.{exists};
+ghost use Rattle.formats.specs.P3109Laws.{p3109_lawful};
 
 use crate::binary16::Binary16;
 use crate::fault::Fault;

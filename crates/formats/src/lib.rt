@@ -1,4 +1,6 @@
 // Number formats: what a code reads as, and the code of a reading.
+#![tactic(auto)]
+
 pub mod any;
 pub mod binary16;
 pub mod fault;

@@ -3,7 +3,7 @@ ghost use Rattle.std.specs.Prelude.{◌≡◌, ℕ, ◌+◌, ◌-◌, ◌*◌, �
 ghost use Rattle.formats.specs.P3109.{Exists, bias, least, Specials, p3109};
 ghost use Rattle.formats.specs.Readings.{Decodes};
 ghost use Rattle.formats.specs.Refusals.{Refuses};
-ghost use Rattle.std.proofs.Common.{rules, arith};
+ghost use Rattle.formats.specs.P3109Laws.{p3109_lawful};
 
 use crate::fault::Fault;
 use crate::format::{Format, Shape};
@@ -86,7 +86,7 @@ impl P3109 {
 impl Format for P3109 {
     ghost meaning = { λ f. p3109 f.width f.precision };
 
-    ghost lawful = { first_of (Prim.search rules, Prim.grind (arith, Self.row.coded.inj)) };
+    ghost lawful = { λ f. p3109_lawful f.width f.precision (f.wide, f.narrow, f.precise, f.short) };
 
     fn shape(&self) -> Shape {
         Shape {

@@ -4,8 +4,8 @@ use native.Mathlib.Nat.{mul-mod_left, eq_of_mul-eq-mul_right}
 use lib.Pow.{shr_mono, split}
 use Rattle.std.proofs.lemmas.Int.{ints, to_z-of_z}
 use Rattle.std.proofs.lemmas.Bool.{cases_lt}
-use Rattle.layout.specs.Sizes.{Shaped, bottom, of_fields, size_at}
-use Rattle.layout.specs.Codes.{fine_size, Normalized, Stands, InUnits, Placed, WholeShift, Divided}
+use Rattle.layout.specs.Sizes.{bottom, of_fields, size_at}
+use Rattle.layout.specs.Codes.{Stands, InUnits, Placed, WholeShift, Divided}
 use Rattle.layout.specs.declared.Size.{Size}
 use Rattle.layout.proofs.DigitLaws.{pow_order}
 use Rattle.layout.proofs.SizeLaws.{twice, size_packed, size_shaped, size_below, size_aligned, size_injective}

@@ -1,5 +1,5 @@
 -- Laws of the sizes and their codes.
-use Rattle.std.proofs.Common.{◌≡◌, ℕ, zero, suc, ◌+◌, ◌-◌, ◌*◌, ◌/◌, ◌%◌, ◌^◌, ◌<◌, ◌≤◌, max, ◌⊎◌, sym, refl, ap, ◌∙◌, ap₂, inl, inr, ⊎_elim, mod-lt, mul_assoc, add-mul, mul-lt-mul_of_pos_right, pow-suc, zero-mul, le_of_mul-le-mul_right, arith, pow_pos, pow_mono, pow-add, shl_lt, shr_lt}
+use Rattle.std.proofs.Common.{◌≡◌, ℕ, zero, suc, ◌+◌, ◌-◌, ◌*◌, ◌/◌, ◌%◌, ◌^◌, ◌<◌, ◌≤◌, ◌⊎◌, sym, refl, ap, ◌∙◌, ap₂, inl, inr, ⊎_elim, mod-lt, mul_assoc, add-mul, mul-lt-mul_of_pos_right, pow-suc, zero-mul, le_of_mul-le-mul_right, arith, pow_pos, pow_mono, pow-add, shl_lt, shr_lt}
 use native.Mathlib.Nat.{max-eq_left, max-eq_right}
 use lib.Pow.{split, high, low, shl-shr, shr_mono}
 use Rattle.std.proofs.lemmas.Bool.{cases_lt, cases_eq, cases_order}

@@ -1,4 +1,6 @@
 // The layout of magnitudes that number formats share.
+#![tactic(auto)]
+
 mod magnitudes;
 
 pub use magnitudes::Layout;

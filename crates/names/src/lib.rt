@@ -1,4 +1,6 @@
 // The names of the formats.
+#![tactic(auto)]
+
 ghost use Rattle.std.specs.Prelude.{◌≡◌, ℕ, ◌<◌, IfOk, string_bytes};
 ghost use Rattle.names.specs.Names.{name_of, ByName, BySizes, ByDigits, with_sizes};
 

@@ -1,4 +1,6 @@
 // Adds many terms to sums, so that the instructions for a term can be counted.
+#![tactic(auto)]
+
 ghost use Rattle.std.specs.Prelude.{◌^◌, ◌<◌, ◌≤◌};
 ghost use Rattle.std.specs.List.{AllByRecursion as All};
 ghost use Rattle.sums.specs.Sums.{Sound};

@@ -1,4 +1,6 @@
 // Tests of registers on examples.
+#![tactic(auto)]
+
 ghost use Rattle.std.specs.Prelude.{Ok, Err};
 ghost use Rattle.registers.specs.Calls.{Bounded};
 

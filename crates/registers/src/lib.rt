@@ -1,4 +1,6 @@
 // Registers: exact sums of terms with their count, and the laws over every history of calls.
+#![tactic(auto)]
+
 pub mod batch;
 mod codes;
 mod pairs;

@@ -1,2 +1,4 @@
 // Reports as text.
+#![tactic(auto)]
+
 pub mod text;

@@ -1,4 +1,6 @@
 // Rounding rules, and the projection that rounds once.
+#![tactic(auto)]
+
 pub mod answers;
 pub mod modes;
 pub mod project;

@@ -1,4 +1,6 @@
 // Tests of sheets on examples.
+#![tactic(auto)]
+
 #[cfg(test)]
 mod tests {
     use reports::text::printed;

@@ -1,4 +1,6 @@
 // Exact sums.
+#![tactic(auto)]
+
 pub mod magnitude;
 mod signed;
 pub mod sum;

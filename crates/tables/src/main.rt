@@ -1,4 +1,6 @@
 // Prints what every code of the named formats reads as.
+#![tactic(auto)]
+
 use anyhow::anyhow;
 use formats::any::AnyFormat;
 use listing::tables::{table, title};

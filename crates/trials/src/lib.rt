@@ -1,4 +1,6 @@
 // Tests on examples.
+#![tactic(auto)]
+
 #[cfg(test)]
 mod tests {
     use formats::any::AnyFormat;

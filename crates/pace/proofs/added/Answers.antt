@@ -2,8 +2,8 @@ use Rattle.std.proofs.Common.{arith}
 use Rattle.pace.proofs.TermLaws.{term_most, within_zero, within_more, within_next}
 use Rattle.pace.proofs.added.Goals as goal
 
-pub add-term-requires : goal.add-term-requires
-add-term-requires c =
+pub add_term-requires : goal.add_term-requires
+add_term-requires c =
     let t = c.drawn-t.result in
     let (short, low) = c.drawn-t.ensures in
     record {
@@ -19,8 +19,8 @@ pub loop-i-preserved : goal.loop-i-preserved
 loop-i-preserved c =
     let t = c.drawn-t.result in
     let (short, low) = c.drawn-t.ensures in
-    let step = c.add-term.ensures in
-    within_next c.loop-i.sum c.add-term.new.self c.loop-i.i t.digits t.place t.negative c.loop-i.invariant short low step.sound step.value
+    let step = c.add_term.ensures in
+    within_next c.loop-i.sum c.add_term.new.self c.loop-i.i t.digits t.place t.negative c.loop-i.invariant short low step.sound step.value
 
 pub returns : goal.returns
 returns c = within_more c.loop-i.sum c.loop-i.i c.args.count c.loop-i.auto.i-end c.loop-i.invariant

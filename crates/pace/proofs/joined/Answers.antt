@@ -5,8 +5,8 @@ use Rattle.pace.specs.Pace.{Within}
 use Rattle.pace.proofs.TermLaws.{within_zero}
 use Rattle.pace.proofs.joined.Goals as goal
 
-pub add-sum-requires : goal.add-sum-requires
-add-sum-requires c =
+pub add_sum-requires : goal.add_sum-requires
+add_sum-requires c =
     let i = c.loop-i.i in
     let sums = c.args.sums.now in
     let lt : i < length sums = omega (arith, c.told-sums, c.loop-i-test.true) in
@@ -20,8 +20,8 @@ pub loop-i-preserved : goal.loop-i-preserved
 loop-i-preserved c =
     let i = c.loop-i.i in
     let sums = c.args.sums.now in
-    let step = c.add-sum.ensures in
+    let step = c.add_sum.ensures in
     let lt : i < length sums = omega (arith, c.told-sums, c.loop-i-test.true) in
     let h = All-get_or (Within 100000) sums i _ lt c.requires in
-    let more = sum_size c.loop-i.all _ c.add-sum.new.self c.loop-i.invariant.0 h.0 step.sound step.value in
+    let more = sum_size c.loop-i.all _ c.add_sum.new.self c.loop-i.invariant.0 h.0 step.sound step.value in
     (step.sound, omega (arith, c.loop-i.invariant.1, h.1, more))

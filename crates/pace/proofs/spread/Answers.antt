@@ -4,8 +4,8 @@ use Rattle.pace.specs.Pace.{Within}
 use Rattle.pace.proofs.TermLaws.{term_most, within_zero, within_more, within_next}
 use Rattle.pace.proofs.spread.Goals as goal
 
-pub add-term-requires : goal.add-term-requires
-add-term-requires c =
+pub add_term-requires : goal.add_term-requires
+add_term-requires c =
     let i = c.loop-i.i in
     let sums = c.loop-i.sums in
     let t = c.drawn-t.result in
@@ -29,10 +29,10 @@ loop-i-preserved c =
     let sums = c.loop-i.sums in
     let t = c.drawn-t.result in
     let (short, low) = c.drawn-t.ensures in
-    let step = c.add-term.ensures in
+    let step = c.add_term.ensures in
     let lt : i / 2 % 8 < length sums = omega (arith, c.loop-i.invariant.0) in
     let h = All-get_or (Within i) sums (i / 2 % 8) _ lt c.loop-i.invariant.1 in
-    let next = within_next _ c.add-term.new.self i t.digits t.place t.negative h short low step.sound step.value in
+    let next = within_next _ c.add_term.new.self i t.digits t.place t.negative h short low step.sound step.value in
     let rest = All-weaker (Within i) (Within (i + 1)) (λ s. within_more s i (i + 1) (omega arith)) sums c.loop-i.invariant.1 in
     (length-set sums (i / 2 % 8) _ ∙ c.loop-i.invariant.0, All-set (Within (i + 1)) sums (i / 2 % 8) _ next rest)
 

@@ -21,20 +21,20 @@ kept n base k e = rw (e, pow-zero base) (sym (mul-one n))
 times : (n base product factor m k : ℕ) → product ≡ n * factor → factor ≡ base ^ m → m ≡ k → product ≡ n * base ^ k
 times n base product factor m k e f g = cc
 
-pub returns-in-ok-checked-mul : goal.returns-in-ok-checked-mul
-returns-in-ok-checked-mul c =
+pub returns-in_ok-checked_mul : goal.returns-in_ok-checked_mul
+returns-in_ok-checked_mul c =
     let same = to_z-of_z w32 c.args.power c.ranges.power in
     let z = below c.args.power (subst (λ y. lt_z y (pos 0) ≡ true) same c.if-power-lt0.true) in (
       kept c.args.left c.args.base (up c.args.power) z.0,
-      times c.args.right c.args.base _ _ _ _ c.in-ok-checked-mul.ensures.1 c.in-ok-factor.ensures.1
-          (c.unsigned-abs.ensures.value ∙ ap nat_abs same ∙ sym z.1),
+      times c.args.right c.args.base _ _ _ _ c.in_ok-checked_mul.ensures.1 c.in_ok-factor.ensures.1
+          (c.unsigned_abs.ensures.value ∙ ap nat_abs same ∙ sym z.1),
     )
 
-pub returns-in-ok-checked-mul-2 : goal.returns-in-ok-checked-mul-2
-returns-in-ok-checked-mul-2 c =
+pub returns-in_ok-checked_mul-2 : goal.returns-in_ok-checked_mul-2
+returns-in_ok-checked_mul-2 c =
     let same = to_z-of_z w32 c.args.power c.ranges.power in
     let z = above c.args.power (subst (λ y. lt_z y (pos 0) ≡ false) same c.if-power-lt0.false) in (
-      times c.args.left c.args.base _ _ _ _ c.in-ok-checked-mul-2.ensures.1 c.in-ok-factor.ensures.1
-          (c.unsigned-abs.ensures.value ∙ ap nat_abs same ∙ sym z.0),
+      times c.args.left c.args.base _ _ _ _ c.in_ok-checked_mul-2.ensures.1 c.in_ok-factor.ensures.1
+          (c.unsigned_abs.ensures.value ∙ ap nat_abs same ∙ sym z.0),
       kept c.args.right c.args.base (down c.args.power) z.1,
     )

@@ -26,8 +26,8 @@ both r n s d product left right t z k numerator significand denominator h e f a 
     let y : right ≡ significand * denominator * 10 ^ down t = e.1 ∙ ap (λ (y : ℕ). y * 10 ^ down (bits t)) w ∙ ap (λ (y : ℤ). significand * denominator * 10 ^ down y) i in
     rw (← x, ← y, ← j) h
 
-pub overflow-sub-twos : goal.overflow-sub-twos
-overflow-sub-twos c =
+pub overflow_sub-twos : goal.overflow_sub-twos
+overflow_sub-twos c =
     let n = c.args.number.now in
     let d = c.args.value.now in
     let g : SFits w16 n.twos = search rules in
@@ -43,8 +43,8 @@ returns c =
     let h : SFits w8 d.exponent = search rules in
     both c.raised-2.result c.from-left.result c.from.result c.from-2.result _ _ _ n.tens _ _ _ _ _
     c.raised-2.ensures
-    c.in-ok-left.ensures
-    c.in-ok-right.ensures.1
+    c.in_ok-left.ensures
+    c.in_ok-right.ensures.1
     c.from-left.ensures
     c.from.ensures
     c.from-2.ensures

@@ -3,8 +3,8 @@ use Rattle.std.proofs.lemmas.Nat.{one_shl}
 use Rattle.layout.proofs.CodeLaws.{shift_room, shift_left, shift_odd, shift_past, shift_divided}
 use Rattle.layout.proofs.magnitudes.shifted.Goals as goal
 
-pub overflow-shl-result : goal.overflow-shl-result
-overflow-shl-result c = shift_room c.args.significand c.args.from c.args.to c.requires.some c.requires.fits
+pub overflow_shl-result : goal.overflow_shl-result
+overflow_shl-result c = shift_room c.args.significand c.args.from c.args.to c.requires.some c.requires.fits
 
 pub returns-then-to-from : goal.returns-then-to-from
 returns-then-to-from c = shift_left c.args.significand c.args.from c.args.to c.if-to-from.true c.requires.some c.requires.fits

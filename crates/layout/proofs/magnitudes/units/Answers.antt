@@ -1,11 +1,11 @@
-use Rattle.std.proofs.Common.{◌≡◌, ℕ, ◌*◌, ◌^◌, ◌≤◌, ap, ◌∙◌, arith, rules}
+use Rattle.std.proofs.Common.{◌≡◌, ◌*◌, ◌^◌, ◌≤◌, ap, ◌∙◌, arith, rules}
 use Rattle.std.proofs.lemmas.Int.{ints}
 use Rattle.layout.specs.Codes.{fine_size}
 use Rattle.layout.proofs.CodeLaws.{biased_is, in_shift}
 use Rattle.layout.proofs.magnitudes.units.Goals as goal
 
-pub overflow-shl-result : goal.overflow-shl-result
-overflow-shl-result c = search (rules, ints)
+pub overflow_shl-result : goal.overflow_shl-result
+overflow_shl-result c = search (rules, ints)
 
 pub returns : goal.returns
 returns c =

@@ -1,4 +1,4 @@
 use Rattle.listing.proofs.numerals.+write_numeral.Given as goal
 
-abbrev pub decreases-write-numeral : goal.decreases-write-numeral
-decreases-write-numeral g l = l.count
+abbrev pub decreases-write_numeral : goal.decreases-write_numeral
+decreases-write_numeral g l = l.count

@@ -6,5 +6,5 @@ pub returns : goal.returns
 returns c =
     let d = c.args.value in
     let fits : SFits w8 d.exponent = search rules in
-    let places : c.unsigned-abs-places.result ≡ nat_abs (d.exponent +ℤ pos 32) = omega (arith, ints) in
+    let places : c.unsigned_abs-places.result ≡ nat_abs (d.exponent +ℤ pos 32) = omega (arith, ints) in
     (refl, ap (λ k. d.significand * 2 ^ k % 2 ^ 64) places ∙ mod-eq_of_lt c.requires.1)

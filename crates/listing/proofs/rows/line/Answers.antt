@@ -3,8 +3,8 @@ use Rattle.std.proofs.lemmas.Result.{IfOk-weaker}
 use Rattle.listing.proofs.RowLaws.{fits, line}
 use Rattle.listing.proofs.rows.line.Goals as goal
 
-pub invariant-of-read : goal.invariant-of-read
-invariant-of-read g c =
+pub invariant_of-read : goal.invariant_of-read
+invariant_of-read g c =
     let (near, small) = fits _ (g.met.F.Format.lawful c.args.format.now) c.args.code c.args.reading c.requires in (near, (small, tt))
 
 pub returns : goal.returns

@@ -9,7 +9,7 @@ loop-code-init g c =
 pub loop-code-preserved : goal.loop-code-preserved
 loop-code-preserved g c =
     listed_more string_bytes (g.F.Format.meaning c.args.format.now) (vec_items c.loop-code.lines) (vec_items c.push.new.self)
-    c.in-ok-row.field-0 c.loop-code.code c.loop-code.invariant c.in-ok-push.ensures.items c.in-ok-row.ensures
+    c.in_ok-row.field-0 c.loop-code.code c.loop-code.invariant c.in_ok-push.ensures.items c.in_ok-row.ensures
 
 pub returns : goal.returns
 returns g c =

@@ -31,44 +31,44 @@ loop-i-preserved g c =
     let n = g.G.Format.meaning c.args.y-format.now in
     let s = to_z w8 (of_z w8 c.args.scale) in
     let scale = subst ScaleFits (sym (to_z-of_z w8 c.args.scale c.ranges.scale)) c.requires.scale in
-    let both = c.in-ok-x.ensures m n c.requires.of in
-    let term = product_term m n s c.args.run.now c.loop-i.i _ _ c.in-ok-term.term scale both c.in-ok-term.ensures in
+    let both = c.in_ok-x.ensures m n c.requires.of in
+    let term = product_term m n s c.args.run.now c.loop-i.i _ _ c.in_ok-term.term scale both c.in_ok-term.ensures in
     let old = c.loop-i.sum in
-    let more : (new : Sum) → value new ≡ plus (value old) (term_value c.in-ok-term.term) → Sound new → size new ≤ size old + 2 ^ 191 → SoFar m n s c.args.run.now (c.loop-i.i + 1) new =
-    λ new is sound small. so_far_more m n s c.args.run.now c.loop-i.i _ _ (term_value c.in-ok-term.term) old new c.loop-i.invariant both term is sound small in
+    let more : (new : Sum) → value new ≡ plus (value old) (term_value c.in_ok-term.term) → Sound new → size new ≤ size old + 2 ^ 191 → SoFar m n s c.args.run.now (c.loop-i.i + 1) new =
+    λ new is sound small. so_far_more m n s c.args.run.now c.loop-i.i _ _ (term_value c.in_ok-term.term) old new c.loop-i.invariant both term is sound small in
     elim c.match-term.branch [
       | in-Finite w ↦
           subst (SoFar m n s c.args.run.now (c.loop-i.i + 1)) (sym w.sum-is)
-          (more w.add-term.new.self
-          (subst (λ t. value w.add-term.new.self ≡ plus (value old) (term_value t)) (sym w.in-Finite.is) w.add-term.ensures.value)
-          w.add-term.ensures.sound
-          (finite_grows old w.add-term.new.self _ _ c.loop-i.invariant.sound w.add-term.ensures.sound w.add-term.ensures.value w.in-Finite.term.small))
+          (more w.add_term.new.self
+          (subst (λ t. value w.add_term.new.self ≡ plus (value old) (term_value t)) (sym w.in-Finite.is) w.add_term.ensures.value)
+          w.add_term.ensures.sound
+          (finite_grows old w.add_term.new.self _ _ c.loop-i.invariant.sound w.add_term.ensures.sound w.add_term.ensures.value w.in-Finite.term.small))
       | in-default w ↦
           subst (SoFar m n s c.args.run.now (c.loop-i.i + 1)) (sym w.sum-is)
           (more w.add-to.new.sum w.add-to.ensures.value w.add-to.ensures.sound w.add-to.ensures.size)
     ]
 
-pub returns-in-err-x : goal.returns-in-err-x
-returns-in-err-x g c =
+pub returns-in_err-x : goal.returns-in_err-x
+returns-in_err-x g c =
     let m = g.F.Format.meaning c.args.x-format.now in
     let n = g.G.Format.meaning c.args.y-format.now in
-    let p = err_from_is_err_and {Q = λ f. f ≡ c.in-err-x.field-0.0} c.from-residual.result c.from-residual.ensures.1 in
+    let p = err_from_is_err_and {Q = λ f. f ≡ c.in_err-x.field-0.0} c.from_residual.result c.from_residual.ensures.1 in
     let lt : c.loop-i.i < pairs m n c.args.run.now =
     subst (λ b. c.loop-i.i < length c.args.run.now / b) (c.bytes.ensures ∙ bytes_of_lem m n c.args.pairs c.requires.of) c.loop-i-test.true in
     record {
       bounded = rw p.1 tt;
       gathers = rw (p.1, p.2)
-          (pair_refused m n c.args.scale c.args.run.now c.loop-i.i _ c.loop-i.invariant.clean lt (c.in-err-x.ensures m n c.requires.of));
+          (pair_refused m n c.args.scale c.args.run.now c.loop-i.i _ c.loop-i.invariant.clean lt (c.in_err-x.ensures m n c.requires.of));
     }
 
-pub returns-in-err-term : goal.returns-in-err-term
-returns-in-err-term g c =
+pub returns-in_err-term : goal.returns-in_err-term
+returns-in_err-term g c =
     let m = g.F.Format.meaning c.args.x-format.now in
     let n = g.G.Format.meaning c.args.y-format.now in
     let s = to_z w8 (of_z w8 c.args.scale) in
     let scale = subst ScaleFits (sym (to_z-of_z w8 c.args.scale c.ranges.scale)) c.requires.scale in
-    let both = c.in-ok-x.ensures m n c.requires.of in
-    absurd (product_stands m n s c.args.run.now c.loop-i.i _ _ _ scale both c.in-err-term.ensures)
+    let both = c.in_ok-x.ensures m n c.requires.of in
+    absurd (product_stands m n s c.args.run.now c.loop-i.i _ _ _ scale both c.in_err-term.ensures)
 
 pub returns : goal.returns
 returns g c =

@@ -10,10 +10,10 @@ returns g c =
     let m = g.F.Format.meaning c.args.format.now in
     let laws = g.met.F.Format.lawful c.args.format.now in
     let least : c.from-3.result ≡ bottom m.least + 64 =
-    omega (arith, ints, c.from-3.ensures, c.unsigned-abs-least.ensures.value, c.from.ensures, c.shape-shape.ensures.least, laws.deep) in
-    let full : c.saturating-sub-full.result ≡ c.bit-length.result - m.precision =
-    omega (arith, c.saturating-sub-full.ensures, c.from-2.ensures, c.shape-shape.ensures.precision) in
+    omega (arith, ints, c.from-3.ensures, c.unsigned_abs-least.ensures.value, c.from.ensures, c.shape-shape.ensures.least, laws.deep) in
+    let full : c.saturating_sub-full.result ≡ c.bit_length.result - m.precision =
+    omega (arith, c.saturating_sub-full.ensures, c.from-2.ensures, c.shape-shape.ensures.precision) in
     let (place, low, high, fits) =
-    place_is m laws (number c.args.size.now.words) c.bit-length.result c.max.result c.bit-length.ensures.0 c.bit-length.ensures.1
+    place_is m laws (number c.args.size.now.words) c.bit_length.result c.max.result c.bit_length.ensures.0 c.bit_length.ensures.1
     (c.max.ensures ∙ ap₂ max full least) in
     record { place = place; bounds = (low, high); fits = fits }

@@ -7,11 +7,11 @@ use Rattle.rounding.proofs.project.size_of.Goals as goal
 pub returns : goal.returns
 returns g c =
     let is = c.magnitude-size.ensures.size in
-    let place = c.last-place-place.result in
+    let place = c.last_place-place.result in
     record {
-      negative = c.is-negative.ensures;
-      place = rw (sym is) c.last-place-place.ensures.place;
+      negative = c.is_negative.ensures;
+      place = rw (sym is) c.last_place-place.ensures.place;
       cut = subst (λ n. CutAt n place c.cut.result) is c.cut.ensures;
-      deep = c.last-place-place.ensures.bounds.0;
-      short = omega (arith, c.cut.ensures.digits, shr_below (number c.magnitude-size.result.words) 12 place c.last-place-place.ensures.fits);
+      deep = c.last_place-place.ensures.bounds.0;
+      short = omega (arith, c.cut.ensures.digits, shr_below (number c.magnitude-size.result.words) 12 place c.last_place-place.ensures.fits);
     }

@@ -2,25 +2,25 @@ use Rattle.std.proofs.Common.{◌≡◌, ◌<◌, ◌++◌, length, vec_items, a
 use Rattle.std.proofs.lemmas.List.{take_rest, length-drop}
 use Rattle.sheets.proofs.SheetLaws.{all_bounded, line_of, lines_more, lines_same, done_none, done_more, done_all, done_fault}
 use Rattle.sheets.proofs.run.follow.Goals as goal
-use Rattle.sheets.proofs.run.follow.Goals.{in-Some+in-ok-push, in-default}
+use Rattle.sheets.proofs.run.follow.Goals.{in-Some+in_ok-push, in-default}
 
 pub loop-rest-init : goal.loop-rest-init
 loop-rest-init c = done_none c.args.sheet.now (vec_items c.args.lines.now) c.new-bench.result c.new-bench.ensures
 
-pub overflow-add-number : goal.overflow-add-number
-overflow-add-number c = omega (arith, c.loop-rest.invariant.numbered, c.loop-rest.invariant.place_is)
+pub overflow_add-number : goal.overflow_add-number
+overflow_add-number c = omega (arith, c.loop-rest.invariant.numbered, c.loop-rest.invariant.place_is)
 
 pub step-requires : goal.step-requires
 step-requires c = all_bounded c.loop-rest.bench c.loop-rest.invariant.book c.loop-rest.invariant.keeps
 
-pub slice-bounds-rest-count : goal.slice-bounds-rest-count
-slice-bounds-rest-count c = (c.in-Ok.ensures c.loop-rest.invariant.book c.loop-rest.invariant.keeps).within
+pub slice_bounds-rest-count : goal.slice_bounds-rest-count
+slice_bounds-rest-count c = (c.in-Ok.ensures c.loop-rest.invariant.book c.loop-rest.invariant.keeps).within
 
-pub slice-bounds-rest-start : goal.slice-bounds-rest-start
-slice-bounds-rest-start c = omega (arith, (c.in-Ok.ensures c.loop-rest.invariant.book c.loop-rest.invariant.keeps).within)
+pub slice_bounds-rest-start : goal.slice_bounds-rest-start
+slice_bounds-rest-start c = omega (arith, (c.in-Ok.ensures c.loop-rest.invariant.book c.loop-rest.invariant.keeps).within)
 
-pub overflow-add-place : goal.overflow-add-place
-overflow-add-place c = omega (arith, c.loop-rest.invariant.place_is, (c.in-Ok.ensures c.loop-rest.invariant.book c.loop-rest.invariant.keeps).within)
+pub overflow_add-place : goal.overflow_add-place
+overflow_add-place c = omega (arith, c.loop-rest.invariant.place_is, (c.in-Ok.ensures c.loop-rest.invariant.book c.loop-rest.invariant.keeps).within)
 
 pub loop-rest-smaller : goal.loop-rest-smaller
 loop-rest-smaller c =
@@ -33,7 +33,7 @@ loop-rest-preserved c =
     let some : 0 < length rest = search rules in
     let lines : vec_items c.match-line.lines ≡ vec_items c.loop-rest.lines ++ line_of c.in-Ok.line =
     elim c.match-line.branch [
-      | in-Some+in-ok-push w ↦ lines_more (vec_items c.loop-rest.lines) (vec_items w.push.new.self) (vec_items c.match-line.lines) c.in-Ok.line w.in-Some.line w.in-Some.is w.in-ok-push.ensures.items (ap vec_items w.lines-is)
+      | in-Some+in_ok-push w ↦ lines_more (vec_items c.loop-rest.lines) (vec_items w.push.new.self) (vec_items c.match-line.lines) c.in-Ok.line w.in-Some.line w.in-Some.is w.in_ok-push.ensures.items (ap vec_items w.lines-is)
       | in-default w ↦ lines_same (vec_items c.loop-rest.lines) (vec_items c.match-line.lines) c.in-Ok.line w.in-default.is (ap vec_items w.lines-is)
     ] in
     done_more c.args.sheet.now (vec_items c.args.lines.now) _ _ c.loop-rest.bench c.step.new.bench c.loop-rest.place c.loop-rest.number c.in-Ok.bytes rest _

@@ -14,8 +14,8 @@ loop-i-preserved c =
     let rest = number (drop (i + 1) c.args.other.now) in
     let d : number (drop i c.args.other.now) ≡ c.from.result + 2 ^ 32 * rest =
     number-drop c.args.other.now i (omega (arith, c.told-other, c.loop-i-test.true)) ∙ ap (λ w. w + 2 ^ 32 * rest) (sym c.from.ensures) in
-    let step = c.add-word-carried.ensures in
-    (step.eight, step.bound, gathered (number c.loop-i.words) _ c.from.result c.loop-i.carried c.add-word-carried.result rest i _ step.sum (rw d at c.loop-i.invariant.2))
+    let step = c.add_word-carried.ensures in
+    (step.eight, step.bound, gathered (number c.loop-i.words) _ c.from.result c.loop-i.carried c.add_word-carried.result rest i _ step.sum (rw d at c.loop-i.invariant.2))
 
 pub returns : goal.returns
 returns c =

@@ -10,8 +10,8 @@ loop-i-preserved c =
     let rest = number (drop (i + 1) c.args.words.now) in
     let d : number (drop i c.args.words.now) ≡ c.from.result + 2 ^ 32 * rest =
     number-drop c.args.words.now i (omega (arith, c.told-words, c.loop-i-test.true)) ∙ ap (λ w. w + 2 ^ 32 * rest) (sym c.from.ensures) in
-    let step = c.take-word-borrowed.ensures in
-    (step.eight, step.bound, gathered_down (number c.loop-i.less) _ c.from.result c.loop-i.borrowed c.take-word-borrowed.result rest i _ step.difference (rw d at c.loop-i.invariant.2))
+    let step = c.take_word-borrowed.ensures in
+    (step.eight, step.bound, gathered_down (number c.loop-i.less) _ c.from.result c.loop-i.borrowed c.take_word-borrowed.result rest i _ step.difference (rw d at c.loop-i.invariant.2))
 
 pub returns : goal.returns
 returns c =

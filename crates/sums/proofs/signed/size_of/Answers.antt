@@ -3,12 +3,12 @@ use Rattle.std.proofs.lemmas.Bool.{not-true, not-false}
 use Rattle.sums.proofs.SignedLaws.{size_positive, size_negative}
 use Rattle.sums.proofs.signed.size_of.Goals as goal
 
-pub returns-then-is-negative : goal.returns-then-is-negative
-returns-then-is-negative c =
-    let less = c.negative-of.ensures in
-    let sign = not-true _ (sym c.if-is-negative.ensures) in
-    record { eight = less.eight; size = size_negative c.args.words.now c.negative-of.result c.requires less.eight sign less.negated }
+pub returns-then-is_negative : goal.returns-then-is_negative
+returns-then-is_negative c =
+    let less = c.negative_of.ensures in
+    let sign = not-true _ (sym c.if-is_negative.ensures) in
+    record { eight = less.eight; size = size_negative c.args.words.now c.negative_of.result c.requires less.eight sign less.negated }
 
-pub returns-else-is-negative : goal.returns-else-is-negative
-returns-else-is-negative c =
-    record { eight = c.requires; size = size_positive c.args.words.now c.requires (not-false _ (sym c.if-is-negative.ensures)) }
+pub returns-else-is_negative : goal.returns-else-is_negative
+returns-else-is_negative c =
+    record { eight = c.requires; size = size_positive c.args.words.now c.requires (not-false _ (sym c.if-is_negative.ensures)) }

@@ -4,13 +4,13 @@ use Rattle.terms.proofs.PlaceLaws.{fits_byte, place_is, place_low}
 use Rattle.terms.proofs.ProductLaws.{below_both, multiplied_signed, multiplied_small}
 use Rattle.terms.proofs.term.multiplied.Goals as goal
 
-pub overflow-cast-result : goal.overflow-cast-result
-overflow-cast-result c =
+pub overflow_cast-result : goal.overflow_cast-result
+overflow_cast-result c =
     let (f, (g, h)) = c.requires in
     fits_byte (place_is f g h c.from.ensures c.from-2.ensures c.from-3.ensures) (place_low f g h)
 
-pub invariant-of-result : goal.invariant-of-result
-invariant-of-result c =
+pub invariant_of-result : goal.invariant_of-result
+invariant_of-result c =
     let (f, (g, h)) = c.requires in
     let place = ap nat_abs (place_is f g h c.from.ensures c.from-2.ensures c.from-3.ensures) in
     let short = below_both 12 c.args.x.significand c.args.y.significand f.short g.short in (

@@ -3,8 +3,8 @@ use Rattle.std.proofs.lemmas.Int.{ints}
 use Rattle.terms.proofs.ProductLaws.{scaled_signed, scaled_small}
 use Rattle.terms.proofs.term.scaled.Goals as goal
 
-pub invariant-of-result : goal.invariant-of-result
-invariant-of-result c =
+pub invariant_of-result : goal.invariant_of-result
+invariant_of-result c =
     (omega arith, (omega (arith, ints), (scaled_small _ _ _ _ c.from.ensures (omega (arith, ints)) c.requires.small, tt)))
 
 pub returns : goal.returns

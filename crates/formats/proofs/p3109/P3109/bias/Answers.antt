@@ -1,6 +1,7 @@
-use Rattle.std.proofs.Common.{◌≡◌, ◌-◌, arith}
+use Rattle.std.proofs.Common.{◌-◌, arith}
 use Rattle.std.proofs.lemmas.Nat.{one_shl}
-use Rattle.formats.specs.P3109Laws.{exists, bias_room}
+use Rattle.formats.specs.OwnFacts.{exists}
+use Rattle.formats.specs.P3109Laws.{bias_room}
 use Rattle.formats.proofs.p3109.P3109.bias.Goals as goal
 
 pub returns : goal.returns

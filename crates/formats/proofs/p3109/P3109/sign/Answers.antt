@@ -1,6 +1,7 @@
-use Rattle.std.proofs.Common.{◌≡◌, ◌-◌, arith, pow_mono}
+use Rattle.std.proofs.Common.{◌-◌, arith, pow_mono}
 use Rattle.std.proofs.lemmas.Nat.{one_shl}
-use Rattle.formats.specs.P3109Laws.{exists, sign_double, specials}
+use Rattle.formats.specs.OwnFacts.{exists}
+use Rattle.formats.specs.P3109Laws.{sign_double, specials}
 use Rattle.formats.proofs.p3109.P3109.sign.Goals as goal
 
 pub returns : goal.returns

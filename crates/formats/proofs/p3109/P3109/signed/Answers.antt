@@ -1,4 +1,5 @@
-use Rattle.formats.specs.P3109Laws.{exists, decodes_signed, decodes_infinite, decodes_negative_infinite}
+use Rattle.formats.specs.OwnFacts.{exists}
+use Rattle.formats.specs.P3109Laws.{decodes_signed, decodes_infinite, decodes_negative_infinite}
 use Rattle.formats.specs.ValueLaws.{not_both}
 use Rattle.formats.proofs.p3109.P3109.signed.Goals as goal
 

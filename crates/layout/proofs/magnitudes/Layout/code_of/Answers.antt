@@ -27,14 +27,14 @@ shifted-requires c =
     let m : 2 ^ (l.precision + c.place-place.result) ≤ 2 ^ (16 + c.place-place.result) = pow_mono le in
     record { some = omega (arith, c.if-size-eq0.false); fits = omega (arith, same, c.place-place.ensures.0.short) }
 
-pub returns-in-err-significand : goal.returns-in-err-significand
-returns-in-err-significand c =
+pub returns-in_err-significand : goal.returns-in_err-significand
+returns-in_err-significand c =
     let l = c.args.self.now in
     let same = held c.args.size c.biased.result (search rules) c.biased.ensures.0 in
-    rw c.from-residual.ensures
+    rw c.from_residual.ensures
     (λ k e.
     let t = whole l.precision (bottom l.least_exponent) (fine_size c.args.size) c.place-place.result l.precise c.place-place.ensures.0 k e in
-    c.in-err-significand.ensures t.0 (t.1 ∙ sym same))
+    c.in_err-significand.ensures t.0 (t.1 ∙ sym same))
 
 pub returns : goal.returns
 returns c =
@@ -42,8 +42,8 @@ returns c =
     let b = bottom l.least_exponent in
     let same = held c.args.size c.biased.result (search rules) c.biased.ensures.0 in
     let steps : c.from-steps.result ≡ c.place-place.result - (b + 96) = omega (arith, ints, c.from-steps.ensures, c.biased-2.ensures.0, l.deep) in
-    let t = c.in-ok-significand.significand in
+    let t = c.in_ok-significand.significand in
     let made : size_at l.precision b (c.from.result + c.from-steps.result * c.from-2.result) * 2 ^ 96 ≡ fine_size c.args.size =
     rw (c.from.ensures, c.from-2.ensures, c.hidden.ensures.0, steps)
-    (packed l.precision b (fine_size c.args.size) c.place-place.result l.precise c.place-place.ensures.0 t (c.in-ok-significand.ensures ∙ same)) in
+    (packed l.precision b (fine_size c.args.size) c.place-place.result l.precise c.place-place.ensures.0 t (c.in_ok-significand.ensures ∙ same)) in
     (made, one_code l.precision b (fine_size c.args.size) _ l.precise made)

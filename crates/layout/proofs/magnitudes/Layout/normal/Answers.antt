@@ -14,13 +14,13 @@ fields l c h e known high =
       field_top l.precision l.count c (bottom l.least_exponent) known l.top,
     )
 
-pub overflow-cast-result : goal.overflow-cast-result
-overflow-cast-result c =
+pub overflow_cast-result : goal.overflow_cast-result
+overflow_cast-result c =
     let t = fields c.args.self.now c.args.code c.hidden-hidden.result c.hidden-hidden.ensures.0 c.requires.known c.requires.high in
     search (rules, ints)
 
-pub overflow-add-result-2 : goal.overflow-add-result-2
-overflow-add-result-2 c =
+pub overflow_add-result-2 : goal.overflow_add-result-2
+overflow_add-result-2 c =
     let t = fields c.args.self.now c.args.code c.hidden-hidden.result c.hidden-hidden.ensures.0 c.requires.known c.requires.high in
     search (rules, ints)
 

@@ -14,6 +14,6 @@ returns c =
     let low = biased_is c.biased.result z.exponent (search rules) c.biased.ensures.0 in
     let least : c.biased-2.result ≡ bottom l.least_exponent + 96 = omega (arith, ints, c.biased-2.ensures.0, l.deep) in (
       subst (λ x. Placed l.precision (bottom l.least_exponent) (z.significand * 2 ^ x) c.max.result) low
-          (placed l.precision (bottom l.least_exponent) z.significand c.biased.result d.0 c.max.result l.precise d.2 d.3 (omega (arith, c.max.ensures, c.saturating-sub.ensures, c.from.ensures))),
-      omega (arith, c.max.ensures, c.saturating-sub.ensures, c.from.ensures),
+          (placed l.precision (bottom l.least_exponent) z.significand c.biased.result d.0 c.max.result l.precise d.2 d.3 (omega (arith, c.max.ensures, c.saturating_sub.ensures, c.from.ensures))),
+      omega (arith, c.max.ensures, c.saturating_sub.ensures, c.from.ensures),
     )

@@ -9,7 +9,7 @@ returns-clause-writes g c plain ok =
     let b = c.args.self.now.negative in
     let n = c.args.self.now.units in
     let sign : c.if-self.sign.now ≡ cond b (codes "-") [] = elim c.if-self.branch [ then-self w ↦ cc | else-self w ↦ cc ] in
-    put_both g.W.Write.write_str_gives c.args.f.now c.write.new.self c.write-fraction.new.f
+    put_both g.W.Write.write_str_gives c.args.f.now c.write.new.self c.write_fraction.new.f
     (c.if-self.sign.now ++ (decimal (n / 2 ^ 32) ++ codes ".")) (fraction_text 32 (n % 2 ^ 32)) (units_text b n)
     (units_written b n c.if-self.sign.now sign)
-    (c.in-ok-write.ensures.shows plain (refl {a = true})) (λ after. c.write-fraction.ensures after ok)
+    (c.in_ok-write.ensures.shows plain (refl {a = true})) (λ after. c.write_fraction.ensures after ok)

@@ -10,7 +10,7 @@ returns c =
     let old = c.args.self.now in
     let new = c.bring-term.new.self in
     let entered : (o : Offer) → Offers o c.args.offered → Answers o old c.bring-term.result new = λ o offers.
-    term_entered o c.in-ok-offered.field-0 old new c.bring-term.result (subst (Offers o) c.in-ok-offered.was offers) c.bring-term.ensures.brings in
+    term_entered o c.in_ok-offered.field-0 old new c.bring-term.result (subst (Offers o) c.in_ok-offered.was offers) c.bring-term.ensures.brings in
     record {
       bounded = c.bring-term.ensures.bounded;
       answers = entered;

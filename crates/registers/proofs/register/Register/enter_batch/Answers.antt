@@ -13,11 +13,11 @@ returns c =
     let old = c.args.self.now in
     let new = c.bring.new.self in
     let a = c.bring.result in
-    let batch = c.in-ok-offered.field-0 in
+    let batch = c.in_ok-offered.field-0 in
     let entered : (o : Offer) → Gathers o c.args.offered → Answers o old a new = λ o gathers.
-    batch_entered o batch old new a (subst (Gathers o) c.in-ok-offered.was gathers) c.bring.ensures.brings in
+    batch_entered o batch old new a (subst (Gathers o) c.in_ok-offered.was gathers) c.bring.ensures.brings in
     let joined : (other : Register) → Holds other c.args.offered → Joins other old a new = λ other holds.
-    batch_joined other batch old new a (subst (Holds other) c.in-ok-offered.was holds) c.bring.ensures.brings in
+    batch_joined other batch old new a (subst (Holds other) c.in_ok-offered.was holds) c.bring.ensures.brings in
     record {
       bounded = c.bring.ensures.bounded;
       answers = entered;

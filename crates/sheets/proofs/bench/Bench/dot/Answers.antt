@@ -7,7 +7,7 @@ pub returns : goal.returns
 returns c n =
     let fits : SFits w8 c.signed.result = search rules in
     dot_performs n c.args.register c.args.x-format c.args.y-format c.args.scale c.args.pairs.now
-    c.in-ok-register.register (to_z w8 (of_z w8 c.signed.result)) c.in-ok-x-format.x-format c.in-ok-y-format.y-format
+    c.in_ok-register.register (to_z w8 (of_z w8 c.signed.result)) c.in_ok-x-format.x-format c.in_ok-y-format.y-format
     c.args.self.now _ c.dot.new.register c.dot.result c.placed.result
-    c.in-ok-register.ensures c.in-ok-x-format.ensures c.in-ok-y-format.ensures
+    c.in_ok-register.ensures c.in_ok-x-format.ensures c.in_ok-y-format.ensures
     (to_z-of_z w8 c.signed.result fits ∙ c.signed.ensures) c.dot.ensures.answers c.placed.ensures

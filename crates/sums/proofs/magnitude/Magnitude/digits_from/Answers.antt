@@ -4,8 +4,8 @@ use Rattle.sums.specs.Words.{number}
 use Rattle.sums.proofs.CutLaws.{two_from}
 use Rattle.sums.proofs.magnitude.Magnitude.digits_from.Goals as goal
 
-pub overflow-cast-result-2 : goal.overflow-cast-result-2
-overflow-cast-result-2 c =
+pub overflow_cast-result-2 : goal.overflow_cast-result-2
+overflow_cast-result-2 c =
     let ws = c.args.self.now.words in
     let place = c.args.place in
     rw (c.word-high.ensures.0, c.word-low.ensures.0, two_from ws place c.requires.eight c.requires.fits)
