@@ -1,5 +1,5 @@
 -- Numbers in 32-bit words, the lowest first.
-use Rattle.std.specs.Prelude.{◌≡◌, ℕ, ◌+◌, ◌-◌, ◌*◌, ◌/◌, ◌%◌, ◌^◌, ◌<◌, ◌≤◌, Bool, true, false, cond, ◌⊎◌, List, [], ◌∷◌, length, ℤ, pos, neg_ℤ, nat_lt}
+use Rattle.std.specs.Prelude.{◌≡◌, ℕ, ◌+◌, ◌-◌, ◌*◌, ◌^◌, ◌<◌, cond, ◌⊎◌, List, [], ◌∷◌, length, ℤ, pos, neg_ℤ, nat_lt}
 use Rattle.std.specs.List.{AllByRecursion as All}
 
 abbrev pub number : List ℕ → ℕ

@@ -27,8 +27,8 @@ at-requires g c =
 
 pub loop-i-preserved : goal.loop-i-preserved
 loop-i-preserved g c =
-    let m = g.F.Format.meaning c.args.x-format.now in
-    let n = g.G.Format.meaning c.args.y-format.now in
+    let m = g.F.Format.meaning c.args.x_format.now in
+    let n = g.G.Format.meaning c.args.y_format.now in
     let s = to_z w8 (of_z w8 c.args.scale) in
     let scale = subst ScaleFits (sym (to_z-of_z w8 c.args.scale c.ranges.scale)) c.requires.scale in
     let both = c.in_ok-x.ensures m n c.requires.of in
@@ -45,13 +45,13 @@ loop-i-preserved g c =
           (finite_grows old w.add_term.new.self _ _ c.loop-i.invariant.sound w.add_term.ensures.sound w.add_term.ensures.value w.in-Finite.term.small))
       | in-default w ↦
           subst (SoFar m n s c.args.run.now (c.loop-i.i + 1)) (sym w.sum-is)
-          (more w.add-to.new.sum w.add-to.ensures.value w.add-to.ensures.sound w.add-to.ensures.size)
+          (more w.add_to.new.sum w.add_to.ensures.value w.add_to.ensures.sound w.add_to.ensures.size)
     ]
 
 pub returns-in_err-x : goal.returns-in_err-x
 returns-in_err-x g c =
-    let m = g.F.Format.meaning c.args.x-format.now in
-    let n = g.G.Format.meaning c.args.y-format.now in
+    let m = g.F.Format.meaning c.args.x_format.now in
+    let n = g.G.Format.meaning c.args.y_format.now in
     let p = err_from_is_err_and {Q = λ f. f ≡ c.in_err-x.field-0.0} c.from_residual.result c.from_residual.ensures.1 in
     let lt : c.loop-i.i < pairs m n c.args.run.now =
     subst (λ b. c.loop-i.i < length c.args.run.now / b) (c.bytes.ensures ∙ bytes_of_lem m n c.args.pairs c.requires.of) c.loop-i-test.true in
@@ -63,8 +63,8 @@ returns-in_err-x g c =
 
 pub returns-in_err-term : goal.returns-in_err-term
 returns-in_err-term g c =
-    let m = g.F.Format.meaning c.args.x-format.now in
-    let n = g.G.Format.meaning c.args.y-format.now in
+    let m = g.F.Format.meaning c.args.x_format.now in
+    let n = g.G.Format.meaning c.args.y_format.now in
     let s = to_z w8 (of_z w8 c.args.scale) in
     let scale = subst ScaleFits (sym (to_z-of_z w8 c.args.scale c.ranges.scale)) c.requires.scale in
     let both = c.in_ok-x.ensures m n c.requires.of in
@@ -72,8 +72,8 @@ returns-in_err-term g c =
 
 pub returns : goal.returns
 returns g c =
-    let m = g.F.Format.meaning c.args.x-format.now in
-    let n = g.G.Format.meaning c.args.y-format.now in
+    let m = g.F.Format.meaning c.args.x_format.now in
+    let n = g.G.Format.meaning c.args.y_format.now in
     let s = to_z w8 (of_z w8 c.args.scale) in
     let run = c.args.run.now in
     let count : length run / c.bytes.result ≡ pairs m n run = ap (λ b. length run / b) (c.bytes.ensures ∙ bytes_of_lem m n c.args.pairs c.requires.of) in

@@ -11,7 +11,7 @@ returns g c =
     let mode = c.args.mode in
     let sum = c.args.sum.now in
     record {
-      projected = projected_is m rule mode (value sum) c.answer-for-answer.result c.code.result laws c.answer-for-answer.ensures c.code.ensures;
+      projected = projected_is m rule mode (value sum) c.answer_for-answer.result c.code.result laws c.answer_for-answer.ensures c.code.ensures;
       order = keeps_order m rule mode laws (g.met.R.RoundingRule.monotone c.args.rule.now);
       readings = keeps_readings m rule mode laws;
       nearest = sum_nearest m rule mode sum c.args.size.now laws c.requires.size;

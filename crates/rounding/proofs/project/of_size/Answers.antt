@@ -18,4 +18,4 @@ returns-else-within g c n at is =
     let p = c.args.size.now in
     overflown m laws (g.R.RoundingRule.table c.args.rule.now) p.negative n p.place p.cut c.requires.size.0 at is
     c.args.away _ c.requires.away (ap (λ x. p.cut.digits + x) c.from.ensures) c.args.mode _
-    (c.within.ensures.beyond c.if-within.false) c.of-overflow.ensures
+    (c.within.ensures.beyond c.if-within.false) c.of_overflow.ensures

@@ -9,7 +9,7 @@ use Rattle.sheets.proofs.bench.dot_with.Goals as goal
 
 pub returns-in-OfP3109 : goal.returns-in-OfP3109
 returns-in-OfP3109 g c =
-    let answers = λ (f : AnyFormat) (scale : ℤ). Answers (dot_offer (g.F.Format.meaning c.args.x-format.now) (meaning_of f) scale c.args.pairs.now) c.args.register.now c.dot.result c.dot.new.self in
+    let answers = λ (f : AnyFormat) (scale : ℤ). Answers (dot_offer (g.F.Format.meaning c.args.x_format.now) (meaning_of f) scale c.args.pairs.now) c.args.register.now c.dot.result c.dot.new.self in
     record {
       bounded = c.dot.ensures.bounded;
       answers = subst (λ f. answers f c.args.scale) (sym c.in-OfP3109.is)

@@ -2,7 +2,7 @@ use Rattle.std.proofs.Common.{◌≡◌, ◌+◌, ◌*◌, ◌^◌, ap, inl, inr
 use Rattle.sums.specs.Words.{number}
 use Rattle.sums.proofs.WordLaws.{two_words}
 use Rattle.sums.proofs.words.add_at.Goals as goal
-use Rattle.sums.proofs.words.add_at.Goals.{After-add_word-second, at·returns-then-second-ne0, at·returns-else-second-ne0}
+use Rattle.sums.proofs.words.add_at.Goals.{After-add_word-second, at-returns-then-second-ne0, at-returns-else-second-ne0}
 
 -- both words, and what is carried past them
 both : (c : After-add_word-second) →
@@ -15,7 +15,7 @@ both c =
 
 pub returns-then-second-ne0 : goal.returns-then-second-ne0
 returns-then-second-ne0 c =
-    let all = both (at·returns-then-second-ne0 c).After-add_word-second in
+    let all = both (at-returns-then-second-ne0 c).After-add_word-second in
     let one : c.add_word-second.result ≡ 1 = omega (arith, c.add_word-second.ensures.bound, c.if-second-ne0.true) in
     let w = ap (λ r. r * 2 ^ (32 * (c.args.at + 2))) one in
     record {
@@ -25,6 +25,6 @@ returns-then-second-ne0 c =
 
 pub returns-else-second-ne0 : goal.returns-else-second-ne0
 returns-else-second-ne0 c =
-    let all = both (at·returns-else-second-ne0 c).After-add_word-second in
+    let all = both (at-returns-else-second-ne0 c).After-add_word-second in
     let w = ap (λ r. r * 2 ^ (32 * (c.args.at + 2))) c.if-second-ne0.false in
     record { eight = c.add_word-second.ensures.eight; added = inl (omega (arith, all, w)) }

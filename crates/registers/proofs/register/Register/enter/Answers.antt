@@ -8,12 +8,12 @@ use Rattle.registers.proofs.register.Register.enter.Goals as goal
 pub returns : goal.returns
 returns c =
     let old = c.args.self.now in
-    let new = c.bring-term.new.self in
-    let entered : (o : Offer) → Offers o c.args.offered → Answers o old c.bring-term.result new = λ o offers.
-    term_entered o c.in_ok-offered.field-0 old new c.bring-term.result (subst (Offers o) c.in_ok-offered.was offers) c.bring-term.ensures.brings in
+    let new = c.bring_term.new.self in
+    let entered : (o : Offer) → Offers o c.args.offered → Answers o old c.bring_term.result new = λ o offers.
+    term_entered o c.in_ok-offered.field-0 old new c.bring_term.result (subst (Offers o) c.in_ok-offered.was offers) c.bring_term.ensures.brings in
     record {
-      bounded = c.bring-term.ensures.bounded;
+      bounded = c.bring_term.ensures.bounded;
       answers = entered;
-      added = λ m code offers. recorded_add m code old new c.bring-term.result (entered (add_offer m code) offers);
-      multiplied = λ m n k x y offers. recorded_product m n k x y old new c.bring-term.result (entered (product_offer m n k x y) offers);
+      added = λ m code offers. recorded_add m code old new c.bring_term.result (entered (add_offer m code) offers);
+      multiplied = λ m n k x y offers. recorded_product m n k x y old new c.bring_term.result (entered (product_offer m n k x y) offers);
     }

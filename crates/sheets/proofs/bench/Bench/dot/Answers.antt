@@ -6,8 +6,8 @@ use Rattle.sheets.proofs.bench.Bench.dot.Goals as goal
 pub returns : goal.returns
 returns c n =
     let fits : SFits w8 c.signed.result = search rules in
-    dot_performs n c.args.register c.args.x-format c.args.y-format c.args.scale c.args.pairs.now
-    c.in_ok-register.register (to_z w8 (of_z w8 c.signed.result)) c.in_ok-x-format.x-format c.in_ok-y-format.y-format
+    dot_performs n c.args.register c.args.x_format c.args.y_format c.args.scale c.args.pairs.now
+    c.in_ok-register.register (to_z w8 (of_z w8 c.signed.result)) c.in_ok-x-format.x_format c.in_ok-y-format.y_format
     c.args.self.now _ c.dot.new.register c.dot.result c.placed.result
     c.in_ok-register.ensures c.in_ok-x-format.ensures c.in_ok-y-format.ensures
     (to_z-of_z w8 c.signed.result fits ∙ c.signed.ensures) c.dot.ensures.answers c.placed.ensures
