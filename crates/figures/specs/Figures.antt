@@ -1,6 +1,6 @@
 -- Figures worked out by hand, to which the definitions are held.
 use Rattle.std.specs.Prelude.{◌≡◌, ℕ, ◌*◌, ◌^◌, List, [], ◌∷◌, length, ℤ, pos, neg_ℤ}
-use Rattle.std.specs.List.{AllByRecursion as All}
+use Rattle.std.specs.List.{AllByRecursion}
 use Rattle.formats.specs.AnyFormat.{byte_meaning}
 use Rattle.formats.specs.Value.{finite}
 use Rattle.rounding.specs.Projection.{projected}
@@ -61,4 +61,4 @@ figures =
 
 -- every figure of the table holds
 abbrev pub FiguresHold : Type 0
-FiguresHold = All Holds figures
+FiguresHold = AllByRecursion Holds figures

@@ -2,7 +2,7 @@
 #![tactic(auto)]
 
 ghost use Rattle.std.specs.Prelude.{◌^◌, ◌<◌, ◌≤◌};
-ghost use Rattle.std.specs.List.{AllByRecursion as All};
+ghost use Rattle.std.specs.List.{AllByRecursion};
 ghost use Rattle.sums.specs.Sums.{Sound};
 ghost use Rattle.pace.specs.Pace.{Within};
 
@@ -112,7 +112,7 @@ fn added(count: u32) -> Sum
 // The terms spread over eight sums, each of which then has its standing tested at each term.
 fn spread(count: u32) -> [Sum; 8]
     requires { count ≤ 100000 }
-    ensures { All (Within count) result }
+    ensures { AllByRecursion (Within count) result }
 {
     let mut sums = [Sum::zero(); 8];
     for i in 0..count {
@@ -124,7 +124,7 @@ fn spread(count: u32) -> [Sum; 8]
 
 // Eight sums as one.
 fn joined(sums: &[Sum; 8]) -> Sum
-    requires { All (Within 100000) sums.now }
+    requires { AllByRecursion (Within 100000) sums.now }
     ensures { Sound result }
 {
     let mut all = Sum::zero();

@@ -1,6 +1,5 @@
 -- What a call comes to, and what becomes of it.
-use Rattle.std.proofs.Common.{◌≡◌, [], ◌∷◌, length, Ok, Err, Result, sym, refl, ap, ◌∙◌, subst}
-use Rattle.formats.specs.Value.{Value}
+use Rattle.std.proofs.Common.{length, Ok, Err, Result, sym, refl, subst}
 use Rattle.formats.specs.declared.fault.Fault.{Fault}
 use Rattle.sums.specs.Sums.{value}
 use Rattle.terms.specs.Offers.{Offer, refusal, terms, Offers}

@@ -1,8 +1,7 @@
 -- A call's promise is a step of a history.
-use Rattle.std.proofs.Common.{◌≡◌, ℕ, Bool, true, false, cond, eqb, List, [], ◌∷◌, ℤ, Result, sym, refl, ap, ◌∙◌}
+use Rattle.std.proofs.Common.{◌≡◌, ℕ, cond, eqb, List, ℤ, Result, sym, refl, ap, ◌∙◌}
 use Rattle.std.proofs.lemmas.Bool.{eq-eqb, ne_eqb}
 use Rattle.formats.specs.Meaning.{Meaning}
-use Rattle.formats.specs.Value.{Value}
 use Rattle.formats.specs.declared.fault.Fault.{Fault}
 use Rattle.rounding.specs.Rule.{Rule}
 use Rattle.rounding.specs.declared.answers.Saturation.{Saturation}

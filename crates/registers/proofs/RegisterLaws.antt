@@ -1,5 +1,5 @@
 -- The laws of the registers that histories lead to.
-use Rattle.std.proofs.Common.{◌≡◌, ℕ, ◌*◌, ◌^◌, ◌≤◌, Bool, true, false, not, List, [], length, ℤ, nat_abs, sym, refl, ap, ◌∙◌, subst, ap₂}
+use Rattle.std.proofs.Common.{◌≡◌, ℕ, true, false, not, List, [], nat_abs, sym, refl, ap, ◌∙◌, subst, ap₂}
 use lib.Signed.{non_neg}
 use Rattle.formats.specs.Meaning.{Meaning, Lawful}
 use Rattle.formats.specs.Value.{Value, nan, infinite, finite, less}

@@ -3,16 +3,16 @@ use Rattle.std.proofs.Common.{◌≡◌, ℕ, zero, suc, ◌+◌, ◌-◌, ◌*�
 use lib.Count.{count_leading_zeros}
 use Rattle.layout.specs.Digits.{digits}
 use Rattle.layout.proofs.DigitLaws.{digits_unique}
-use Rattle.std.specs.List.{AllByRecursion as All}
+use Rattle.std.specs.List.{AllByRecursion}
 use Rattle.std.proofs.lemmas.Nat.{pow-add, pow_pos, shr-shr, shr_split, shr_high, shr_below, mod_low, mod-pow-add, field_of, leading_top, mul-le, mod_below, one_shl}
 use Rattle.sums.specs.Words.{number, Eight}
 use Rattle.sums.proofs.WordLaws.{scaled, word_below, take_below, number_split}
 
 -- the words from one up are the number shifted down, and the words below it what is left
-number_shr : (ws : List ℕ) (i : ℕ) → All (λ w. w < 2 ^ 32) ws → number ws / 2 ^ (32 * i) ≡ number (drop i ws)
+number_shr : (ws : List ℕ) (i : ℕ) → AllByRecursion (λ w. w < 2 ^ 32) ws → number ws / 2 ^ (32 * i) ≡ number (drop i ws)
 number_shr ws i h = ap (λ x. x / 2 ^ (32 * i)) (sym (number_split ws i)) ∙ shr_high (number (drop i ws)) (32 * i) (number (take i ws)) (take_below ws i h)
 
-number_mod : (ws : List ℕ) (i : ℕ) → All (λ w. w < 2 ^ 32) ws → number ws % 2 ^ (32 * i) ≡ number (take i ws)
+number_mod : (ws : List ℕ) (i : ℕ) → AllByRecursion (λ w. w < 2 ^ 32) ws → number ws % 2 ^ (32 * i) ≡ number (take i ws)
 number_mod ws i h = ap (λ x. x % 2 ^ (32 * i)) (sym (number_split ws i)) ∙ mod_low (number (drop i ws)) (32 * i) (number (take i ws)) (take_below ws i h)
 
 -- one word more, past the last one too
@@ -39,7 +39,7 @@ word_within (w ∷ ws) zero (suc j) lt = omega arith
 word_within (w ∷ ws) (suc i) (suc j) lt = omega (arith, word_within ws i j (omega arith))
 
 -- a number of i + 1 words
-whole_top : (ws : List ℕ) (i : ℕ) → All (λ w. w < 2 ^ 32) ws → number ws < 2 ^ (32 * suc i) → number ws ≡ get_or ws i 0 * 2 ^ (32 * i) + number (take i ws)
+whole_top : (ws : List ℕ) (i : ℕ) → AllByRecursion (λ w. w < 2 ^ 32) ws → number ws < 2 ^ (32 * suc i) → number ws ≡ get_or ws i 0 * 2 ^ (32 * i) + number (take i ws)
 whole_top ws i h lt =
     let x : 0 + 32 * suc i ≡ 32 * suc i = omega arith in
     let none : number (drop (suc i) ws) ≡ 0 = omega (arith, shr_below (number ws) 0 (32 * suc i) (rw x lt), number_shr ws (suc i) h) in

@@ -1,7 +1,7 @@
 -- Laws of words as two's complement.
 use Rattle.std.proofs.Common.{◌≡◌, ℕ, ◌+◌, ◌-◌, ◌*◌, ◌/◌, ◌%◌, ◌^◌, ◌<◌, ◌≤◌, true, false, not, ltb, leb, ◌⊎◌, List, [], ◌∷◌, length, get_or, take, ℤ, pos, ◌+ℤ◌, neg_ℤ, nat_abs, sym, refl, ap, ◌∙◌, mul_assoc, arith}
 use lib.Signed.{non_neg}
-use Rattle.std.specs.List.{AllByRecursion as All}
+use Rattle.std.specs.List.{AllByRecursion}
 use Rattle.std.proofs.lemmas.Nat.{pow-add, shl_whole}
 use Rattle.std.proofs.lemmas.Int.{ints}
 use Rattle.std.proofs.lemmas.Bool.Decides.{nat_tests}
@@ -50,7 +50,7 @@ top_word ws h =
     rw sign (grind (arith, nat_tests))
 
 -- each number is in one list of words
-words_of : (vs ws : List ℕ) → length vs ≡ length ws → All (λ w. w < 2 ^ 32) vs → All (λ w. w < 2 ^ 32) ws → number vs ≡ number ws → vs ≡ ws
+words_of : (vs ws : List ℕ) → length vs ≡ length ws → AllByRecursion (λ w. w < 2 ^ 32) vs → AllByRecursion (λ w. w < 2 ^ 32) ws → number vs ≡ number ws → vs ≡ ws
 words_of [] [] l p q e = refl
 words_of [] (w ∷ ws) l p q e = absurd (omega arith)
 words_of (v ∷ vs) [] l p q e = absurd (omega arith)

@@ -1,6 +1,6 @@
 -- Laws of numbers in words.
 use Rattle.std.proofs.Common.{◌≡◌, ℕ, zero, suc, ◌+◌, ◌-◌, ◌*◌, ◌^◌, ◌<◌, ◌≤◌, List, [], ◌∷◌, length, get_or, take, drop, set, sym, refl, ap, ◌∙◌, mul_assoc, mul_comm, add-mul, zero-mul, arith, length-set, drop-cons, pow_pos, pow-add}
-use Rattle.std.specs.List.{AllByRecursion as All}
+use Rattle.std.specs.List.{AllByRecursion}
 use Rattle.std.proofs.ByRecursion.{All-set, All-get_or}
 use Rattle.sums.specs.Words.{number, Eight}
 
@@ -106,7 +106,7 @@ two_words_down n₀ n₁ n₂ low high r s i first second =
     rw (x, y) (omega (arith, first, second, add-mul high r (2 ^ (32 * (i + 1))), up_one high i, add-mul low (high * 2 ^ 32) (2 ^ (32 * i))))
 
 -- words of 32 bits hold numbers below 2^32 to their count
-number_lt : (ws : List ℕ) → All (λ w. w < 2 ^ 32) ws → number ws < 2 ^ (32 * length ws)
+number_lt : (ws : List ℕ) → AllByRecursion (λ w. w < 2 ^ 32) ws → number ws < 2 ^ (32 * length ws)
 number_lt [] h = omega arith
 number_lt (w ∷ ws) (p, q) = omega (arith, number_lt ws q, weight_suc (length ws))
 
@@ -114,7 +114,7 @@ pub number_below : (ws : List ℕ) → Eight ws → number ws < 2 ^ 256
 number_below ws h = rw h.long at (number_lt ws h.words32)
 
 -- the words below one, and the words from there up
-pub take_below : (ws : List ℕ) (i : ℕ) → All (λ w. w < 2 ^ 32) ws → number (take i ws) < 2 ^ (32 * i)
+pub take_below : (ws : List ℕ) (i : ℕ) → AllByRecursion (λ w. w < 2 ^ 32) ws → number (take i ws) < 2 ^ (32 * i)
 take_below ws zero h = omega arith
 take_below [] (suc i) h = omega (arith, pow_pos (32 * suc i))
 take_below (w ∷ ws) (suc i) (p, q) = omega (arith, take_below ws i q, weight_suc i)

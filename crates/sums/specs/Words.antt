@@ -1,6 +1,6 @@
 -- Numbers in 32-bit words, the lowest first.
 use Rattle.std.specs.Prelude.{◌≡◌, ℕ, ◌+◌, ◌-◌, ◌*◌, ◌^◌, ◌<◌, cond, ◌⊎◌, List, [], ◌∷◌, length, ℤ, pos, neg_ℤ, nat_lt}
-use Rattle.std.specs.List.{AllByRecursion as All}
+use Rattle.std.specs.List.{AllByRecursion}
 
 abbrev pub number : List ℕ → ℕ
 number [] = 0
@@ -9,7 +9,7 @@ number (w ∷ ws) = w + 2 ^ 32 * number ws
 -- eight words of 32 bits
 pub record Eight (ws : List ℕ) : Type 0 where
   pub long : length ws ≡ 8
-  pub words32 : All (λ w. w < 2 ^ 32) ws
+  pub words32 : AllByRecursion (λ w. w < 2 ^ 32) ws
 
 -- as two's complement
 abbrev pub twos_complement : List ℕ → ℤ

@@ -11,7 +11,7 @@ use Rattle.registers.specs.PairReads.{bytes_of_pair, whole_offer}
 use Rattle.registers.specs.Runs.{pairs}
 use Rattle.registers.specs.declared.batch.Batch.{Batch}
 use Rattle.registers.proofs.RunLaws.{SoFar, finite_grows, bytes_of_lem, so_far_none, so_far_more, product_term, product_stands, in_run, pair_refused, all_gathered}
-use Rattle.registers.proofs.products.gathered.Goals.{in-Finite, in-default}
+use Rattle.registers.proofs.products.gathered.Goals.{in-Finite, in_default}
 use Rattle.registers.proofs.products.gathered.Goals as goal
 
 pub loop-i-init : goal.loop-i-init
@@ -43,7 +43,7 @@ loop-i-preserved g c =
           (subst (λ t. value w.add_term.new.self ≡ plus (value old) (term_value t)) (sym w.in-Finite.is) w.add_term.ensures.value)
           w.add_term.ensures.sound
           (finite_grows old w.add_term.new.self _ _ c.loop-i.invariant.sound w.add_term.ensures.sound w.add_term.ensures.value w.in-Finite.term.small))
-      | in-default w ↦
+      | in_default w ↦
           subst (SoFar m n s c.args.run.now (c.loop-i.i + 1)) (sym w.sum-is)
           (more w.add_to.new.sum w.add_to.ensures.value w.add_to.ensures.sound w.add_to.ensures.size)
     ]

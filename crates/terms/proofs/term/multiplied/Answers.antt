@@ -13,13 +13,12 @@ pub invariant_of-result : goal.invariant_of-result
 invariant_of-result c =
     let (f, (g, h)) = c.requires in
     let place = ap nat_abs (place_is f g h c.from.ensures c.from-2.ensures c.from-3.ensures) in
-    let short = below_both 12 c.args.x.significand c.args.y.significand f.short g.short in (
-      rw (c.from-4.ensures, c.from-5.ensures) short,
-      (
-        rw place (place_low f g h),
-        (multiplied_small _ _ _ _ _ _ _ _ c.from-4.ensures c.from-5.ensures place f.small g.small (omega (arith, ints)), tt),
-      ),
-    )
+    let short = below_both 12 c.args.x.significand c.args.y.significand f.short g.short in
+    record {
+      short = rw (c.from-4.ensures, c.from-5.ensures) short;
+      low = rw place (place_low f g h);
+      small = multiplied_small _ _ _ _ _ _ _ _ c.from-4.ensures c.from-5.ensures place f.small g.small (omega (arith, ints));
+    }
 
 pub returns : goal.returns
 returns c =

@@ -1,4 +1,4 @@
-use Rattle.std.proofs.Common.{Some, None, subst}
+use Rattle.std.proofs.Common.{None, subst}
 use Rattle.terms.specs.Readings.{Signed}
 use Rattle.terms.proofs.SpecialLaws.{special_product}
 use Rattle.terms.proofs.term.of_special.Goals as goal

@@ -5,7 +5,11 @@ use Rattle.terms.proofs.term.scaled.Goals as goal
 
 pub invariant_of-result : goal.invariant_of-result
 invariant_of-result c =
-    (omega arith, (omega (arith, ints), (scaled_small _ _ _ _ c.from.ensures (omega (arith, ints)) c.requires.small, tt)))
+    record {
+      short = omega arith;
+      low = omega (arith, ints);
+      small = scaled_small _ _ _ _ c.from.ensures (omega (arith, ints)) c.requires.small;
+    }
 
 pub returns : goal.returns
 returns c = scaled_signed c.args.value.negative c.args.value.significand _ _ _ c.from.ensures (omega (arith, ints))

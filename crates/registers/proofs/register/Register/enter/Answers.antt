@@ -1,4 +1,4 @@
-use Rattle.std.proofs.Common.{◌≡◌, subst}
+use Rattle.std.proofs.Common.{subst}
 use Rattle.terms.specs.Offers.{Offer, Offers, add_offer, product_offer}
 use Rattle.registers.specs.Calls.{Answers}
 use Rattle.registers.proofs.EnterLaws.{term_entered}

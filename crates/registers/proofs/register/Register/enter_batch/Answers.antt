@@ -1,4 +1,4 @@
-use Rattle.std.proofs.Common.{◌≡◌, subst}
+use Rattle.std.proofs.Common.{subst}
 use Rattle.terms.specs.Offers.{Offer}
 use Rattle.registers.specs.Batches.{Gathers, Holds}
 use Rattle.registers.specs.Calls.{Answers, Joins}
