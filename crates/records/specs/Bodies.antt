@@ -1,5 +1,5 @@
 -- The bodies of records, field by field. Places are counted from the record's first byte: its body begins at 4.
-use Rattle.std.specs.Prelude.{ℕ, ◌+◌, ◌-◌, ◌/◌, ◌%◌, Bool, cond, ◌&&◌, ◌||◌, List, length, drop, ℤ, pos, neg_ℤ, ◌==◌, nat_le, nat_lt, slice_index}
+use Rattle.std.specs.Prelude.{ℕ, ◌-◌, ◌/◌, ◌%◌, Bool, cond, ◌&&◌, ◌||◌, List, length, drop, ℤ, pos, neg_ℤ, ◌==◌, nat_le, nat_lt, slice_index}
 use Rattle.formats.specs.AnyFormat.{byte_meaning}
 use Rattle.registers.specs.Histories.{add, dot, join, read}
 use Rattle.registers.specs.Runs.{wide, code_bytes, code_at}
@@ -7,7 +7,7 @@ use Rattle.rounding.specs.Rule.{Rule}
 use Rattle.rounding.specs.Rules.{ties_to_even, ties_to_away, toward_positive, toward_negative, toward_zero}
 use Rattle.rounding.specs.declared.answers.Saturation.{Saturation}
 use Rattle.rounding.specs.declared.answers.Saturation.TheVariants.{SatFinite, SatPropagate, OvfInf}
-use Rattle.records.specs.Entries.{Entry, clearing, calling, Parsed, refused, asks}
+use Rattle.records.specs.Entries.{clearing, calling, Parsed, refused, asks}
 use Rattle.records.specs.Refusals.{refusal, in_arithmetic, in_record}
 use Rattle.records.specs.declared.kind.Kind.{Kind}
 use Rattle.records.specs.declared.kind.Kind.TheVariants.{Clear, Add, Dot, Join, Read}

@@ -10,7 +10,7 @@ use Rattle.formats.specs.declared.any.AnyFormat.{AnyFormat}
 use Rattle.formats.specs.declared.fault.Fault.{Fault}
 use Rattle.formats.specs.declared.fault.Fault.TheVariants.{NoSuchFormat, CodeTooLarge, ValueNotRepresentable, ScaleOutOfRange, RegisterFull, NotWholeCodes}
 use Rattle.records.specs.Bodies.{clear_fields, add_fields, dot_fields, join_fields, read_fields, signed_byte}
-use Rattle.records.specs.Entries.{calling, refused, asks}
+use Rattle.records.specs.Entries.{calling, asks}
 use Rattle.records.specs.Fields.{fields_of, RegisterAt, FormatAt, RuleAt, ModeAt, OneCode}
 use Rattle.records.specs.Refusals.{refusal, in_arithmetic, refusal_of}
 use Rattle.records.specs.declared.fault.RecordFault.{RecordFault}

@@ -1,5 +1,5 @@
 -- Refusals of a sheet by number, layer and place.
-use Rattle.std.specs.Prelude.{ℕ, ◌+◌, Some, None, Option}
+use Rattle.std.specs.Prelude.{Some, None, Option}
 use Rattle.records.specs.Refusals.{Refusal, refusal, in_sheet, shifted, refusal_of}
 use Rattle.sheets.specs.declared.fault.SheetFault.{SheetFault}
 use Rattle.sheets.specs.declared.fault.SheetFault.TheVariants.{NotARecord, NoSuchKind, TooLong, InRecord}

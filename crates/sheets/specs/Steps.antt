@@ -4,12 +4,10 @@ use Rattle.std.specs.Borrow.{Bor}
 use Rattle.formats.specs.declared.fault.Fault.{Fault}
 use Rattle.formats.specs.declared.fault.Fault.TheVariants.{NoSuchFormat, CodeTooLarge, ValueNotRepresentable, ScaleOutOfRange, RegisterFull, NotWholeCodes}
 use Rattle.records.specs.Entries.{Parsed, refused}
-use Rattle.records.specs.Fields.{fields_of}
 use Rattle.records.specs.Refusals.{Refusal, refusal_of}
 use Rattle.records.specs.declared.fault.RecordFault.{RecordFault}
 use Rattle.records.specs.declared.fault.RecordFault.TheVariants.{Arithmetic}
 use Rattle.records.specs.declared.kind.Kind.{Kind}
-use Rattle.records.specs.declared.record.Record.{Record}
 use Rattle.registers.specs.Calls.{Bounded, Has}
 use Rattle.registers.specs.Histories.{Book}
 use Rattle.registers.specs.declared.register.Register.{Register}

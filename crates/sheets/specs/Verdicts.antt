@@ -1,7 +1,7 @@
 -- What becomes of a record, by the lists of terms of the registers.
 use Rattle.std.specs.Prelude.{ℕ, ◌+◌, cond, List, [], length, ◌==◌, nat_le}
 use Rattle.formats.specs.Value.{Value}
-use Rattle.records.specs.Entries.{Entry, clearing, calling, Parsed, refused, asks}
+use Rattle.records.specs.Entries.{clearing, calling, Parsed, refused, asks}
 use Rattle.records.specs.Refusals.{Refusal, refusal, in_arithmetic}
 use Rattle.registers.specs.Calls.{limit}
 use Rattle.registers.specs.Histories.{Call, add, product, dot, join, read, Book, note}

@@ -1,4 +1,4 @@
-use Rattle.std.proofs.Common.{◌≤◌, leb, length, get_or, drop, sym, refl, ap, ◌∙◌, arith, rules}
+use Rattle.std.proofs.Common.{◌≤◌, length, drop, sym, ap, ◌∙◌, rules}
 use Rattle.std.proofs.lemmas.List.{take_rest}
 use Rattle.std.proofs.lemmas.Bool.{le-leb}
 use Rattle.records.specs.Bodies.{dot_fields, of_length, byte}

@@ -2,7 +2,7 @@ use Rattle.std.proofs.Common.{◌≡◌, ◌<◌, ◌++◌, length, vec_items, a
 use Rattle.std.proofs.lemmas.List.{take_rest, length-drop}
 use Rattle.sheets.proofs.SheetLaws.{all_bounded, line_of, lines_more, lines_same, done_none, done_more, done_all, done_fault}
 use Rattle.sheets.proofs.run.follow.Goals as goal
-use Rattle.sheets.proofs.run.follow.Goals.{in-Some+in_ok-push, in_default}
+use Rattle.sheets.proofs.run.follow.Goals.{in-Some+in_ok-push-in-Ok, in_default}
 
 pub loop-rest-init : goal.loop-rest-init
 loop-rest-init c = done_none c.args.sheet.now (vec_items c.args.lines.now) c.new-bench.result c.new-bench.ensures
@@ -33,7 +33,7 @@ loop-rest-preserved c =
     let some : 0 < length rest = search rules in
     let lines : vec_items c.match-line.lines ≡ vec_items c.loop-rest.lines ++ line_of c.in-Ok.line =
     elim c.match-line.branch [
-      | in-Some+in_ok-push w ↦ lines_more (vec_items c.loop-rest.lines) (vec_items w.push.new.self) (vec_items c.match-line.lines) c.in-Ok.line w.in-Some.line w.in-Some.is w.in_ok-push.ensures.items (ap vec_items w.lines-is)
+      | in-Some+in_ok-push-in-Ok w ↦ lines_more (vec_items c.loop-rest.lines) (vec_items w.push.new.self) (vec_items c.match-line.lines) c.in-Ok.line w.in-Some.line w.in-Some.is w.in_ok-push-in-Ok.ensures.items (ap vec_items w.lines-is)
       | in_default w ↦ lines_same (vec_items c.loop-rest.lines) (vec_items c.match-line.lines) c.in-Ok.line w.in_default.is (ap vec_items w.lines-is)
     ] in
     done_more c.args.sheet.now (vec_items c.args.lines.now) _ _ c.loop-rest.bench c.step.new.bench c.loop-rest.place c.loop-rest.number c.in-Ok.bytes rest _
