@@ -3,7 +3,7 @@ use Rattle.std.proofs.Common.{◌≡◌, ℕ, ◌+◌, ◌*◌, ◌^◌, ◌<◌
 use Rattle.std.proofs.lemmas.Nat.{mul-le}
 use Rattle.formats.specs.Value.{finite, signed}
 use Rattle.sums.specs.Exact.{plus}
-use Rattle.sums.specs.Sums.{value, Sound, size}
+use Rattle.sums.specs.Sums.{value, Sound}
 use Rattle.sums.specs.declared.sum.Sum.{Sum}
 use Rattle.sums.proofs.SizeBound.{term_size, finite-size}
 use Rattle.pace.specs.Pace.{Within}
