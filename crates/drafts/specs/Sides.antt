@@ -1,5 +1,5 @@
 -- A printed number and a finite value as two whole numbers in the same proportion.
-use Rattle.std.specs.Prelude.{◌≡◌, ℕ, zero, suc, ◌+◌, ◌-◌, ◌*◌, ◌^◌, ◌≤◌, ℤ, pos, negsuc, ◌-ℤ◌}
+use Rattle.std.specs.Prelude.{◌≡◌, ℕ, suc, ◌+◌, ◌-◌, ◌*◌, ◌^◌, ◌≤◌, ℤ, pos, negsuc, ◌-ℤ◌}
 use Rattle.formats.specs.declared.reading.Dyadic.{Dyadic}
 use Rattle.drafts.specs.declared.printed.Number.{Number}
 

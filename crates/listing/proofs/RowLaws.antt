@@ -1,6 +1,5 @@
 -- What the row of a code needs of a format's laws.
-use Rattle.std.proofs.Common.{◌≡◌, ℕ, zero, suc, ◌+◌, ◌*◌, ◌/◌, ◌^◌, ◌<◌, ◌≤◌, Bool, true, false, not, List, ◌++◌, ℤ, pos, negsuc, ◌+ℤ◌, ◌*ℤ◌, neg_ℤ, nat_abs, ◌≤ℤ◌, Ok, codes, sym, refl, ap, ◌∙◌, mul_assoc, zero-mul, arith, lit<, lit≤, pow_pos, pow_mono, pow-add}
-use native.Mathlib.Nat.{eq_of_mul-eq-mul_right}
+use Rattle.std.proofs.Common.{◌≡◌, ℕ, zero, suc, ◌+◌, ◌*◌, ◌/◌, ◌^◌, ◌<◌, ◌≤◌, Bool, true, false, not, List, ◌++◌, ℤ, pos, negsuc, ◌+ℤ◌, ◌*ℤ◌, nat_abs, ◌≤ℤ◌, Ok, codes, sym, refl, ap, ◌∙◌, mul_assoc, arith, lit<, lit≤, pow_mono, pow-add}
 use lib.Signed.{non_neg}
 use Rattle.std.proofs.lemmas.Int.{ints}
 use Rattle.formats.specs.Meaning.{Meaning, Lawful}

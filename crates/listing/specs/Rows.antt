@@ -1,13 +1,11 @@
 -- The row of a format's table.
-use Rattle.std.specs.Prelude.{◌≡◌, ℕ, ◌+◌, ◌*◌, ◌/◌, ◌^◌, ◌<◌, ◌≤◌, Bool, true, false, not, List, [], ◌∷◌, ◌++◌, ℤ, pos, negsuc, ◌≤ℤ◌, codes, decimal, unsigned_abs}
+use Rattle.std.specs.Prelude.{◌≡◌, ℕ, ◌+◌, ◌*◌, ◌/◌, ◌^◌, ◌<◌, ◌≤◌, true, false, not, List, ◌++◌, pos, negsuc, ◌≤ℤ◌, codes, decimal, unsigned_abs}
 use Rattle.std.specs.Int.Signed.{non_neg}
 use Rattle.std.specs.Fmt.{signed_decimal}
 use Rattle.formats.specs.Meaning.{Meaning}
 use Rattle.formats.specs.Readings.{fine, Canonical}
 use Rattle.formats.specs.Refusals.{Refuses}
 use Rattle.formats.specs.Value.{Value, nan, infinite, finite, finer}
-use Rattle.formats.specs.declared.fault.Fault.{Fault}
-use Rattle.formats.specs.declared.reading.Dyadic.{Dyadic}
 use Rattle.formats.specs.declared.reading.Reading.{Reading}
 use Rattle.formats.specs.declared.reading.Reading.TheVariants.{Nan, PositiveInfinity, NegativeInfinity, Finite}
 use Rattle.formats.specs.Signs.{size_of}

@@ -1,7 +1,6 @@
 -- The texts of numbers, digit by digit.
 use Rattle.std.specs.Prelude.{ℕ, zero, suc, ◌*◌, ◌/◌, ◌%◌, ◌^◌, Bool, false, cond, List, [], ◌∷◌, ◌++◌, pos, ◌+ℤ◌, codes, decimal, ◌==◌, unsigned_abs}
 use Rattle.std.specs.Fmt.{digit_glyph}
-use Rattle.formats.specs.declared.reading.Dyadic.{Dyadic}
 use Rattle.formats.specs.declared.reading.Reading.{Reading}
 use Rattle.formats.specs.declared.reading.Reading.TheVariants.{Nan, PositiveInfinity, NegativeInfinity, Finite}
 

@@ -7,13 +7,14 @@ use listing::tables::{table, title};
 use names::from_name;
 use std::env;
 use std::io::{BufWriter, Write};
+use std::process::ExitCode;
 
-fn main(rt: HostRuntime) -> anyhow::Result<()> {
+fn main(rt: HostRuntime) -> anyhow::Result<ExitCode> {
     match run(&rt) {
-        Ok(()) => Ok(()),
+        Ok(()) => Ok(ExitCode::SUCCESS),
         Err(error) => {
             eprintln!(rt; "tables: {error}")?;
-            Err(error)
+            Ok(ExitCode::FAILURE)
         }
     }
 }

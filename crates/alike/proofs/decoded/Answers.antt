@@ -1,4 +1,3 @@
-use Rattle.std.proofs.Common.{rules}
 use Rattle.alike.proofs.AlikeLaws.{decodes_once}
 use Rattle.alike.proofs.decoded.Goals as goal
 

@@ -11,4 +11,4 @@ returns c =
     let long : length sizes ≡ 3 = search (tests, rules) in
     let between : get_or sizes 1 0 ≡ 112 = search (tests, rules) in
     let is = text_from_reads sizes (w ∷ (112 ∷ (p ∷ []))) long (refl, (between, (refl, tt))) in
-    named sizes w p c.by-digits.result is c.by-digits.ensures
+    named sizes w p c.by_digits.result is c.by_digits.ensures

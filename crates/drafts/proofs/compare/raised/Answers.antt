@@ -1,4 +1,4 @@
-use Rattle.std.proofs.Common.{◌≡◌, ℕ, suc, ◌*◌, ◌^◌, true, false, ℤ, pos, negsuc, nat_abs, sym, refl, ap, ◌∙◌, subst, mul-one, arith, w32}
+use Rattle.std.proofs.Common.{◌≡◌, ℕ, ◌*◌, ◌^◌, true, false, ℤ, pos, negsuc, nat_abs, sym, refl, ap, ◌∙◌, subst, mul-one, arith, w32}
 use native.Mathlib.Nat.{pow-zero}
 use lib.Signed.{lt_z}
 use Rattle.std.proofs.lemmas.Int.{ints, to_z-of_z}

@@ -11,13 +11,13 @@ returns-then-places-eq0 g t c plain ok =
 
 pub returns-then-rest-eq0 : goal.returns-then-rest-eq0
 returns-then-rest-eq0 g t c plain ok =
-    has_written_of_eq g.W.Write.write_str_gives c.args.f.now (encode c.digit-char.result) (fraction_text c.args.places c.args.fraction) c.write-char.new.self
-    (fraction_end c.args.places c.args.fraction c.digit-char.result (omega (arith, c.if-places-eq0.false)) c.digit-char.ensures.0 c.digit-char.ensures.1 c.if-rest-eq0.true)
-    (c.in_ok-write-char.ensures.writes plain (refl {a = true}))
+    has_written_of_eq g.W.Write.write_str_gives c.args.f.now (encode c.digit_char.result) (fraction_text c.args.places c.args.fraction) c.write_char.new.self
+    (fraction_end c.args.places c.args.fraction c.digit_char.result (omega (arith, c.if-places-eq0.false)) c.digit_char.ensures.0 c.digit_char.ensures.1 c.if-rest-eq0.true)
+    (c.in_ok-write_char.ensures.writes plain (refl {a = true}))
 
 pub returns : goal.returns
 returns g t c plain ok =
-    put_both g.W.Write.write_str_gives c.args.f.now c.write-char.new.self c.write_fraction.new.f
-    (encode c.digit-char.result) (fraction_text (c.args.places - 1) (c.args.fraction * 10 % 2 ^ 32)) (fraction_text c.args.places c.args.fraction)
-    (fraction_next c.args.places c.args.fraction c.digit-char.result (omega (arith, c.if-places-eq0.false)) c.digit-char.ensures.0 c.digit-char.ensures.1 (omega (arith, c.if-rest-eq0.false)))
-    (c.in_ok-write-char.ensures.writes plain (refl {a = true})) (λ after. c.write_fraction.ensures after ok)
+    put_both g.W.Write.write_str_gives c.args.f.now c.write_char.new.self c.write_fraction.new.f
+    (encode c.digit_char.result) (fraction_text (c.args.places - 1) (c.args.fraction * 10 % 2 ^ 32)) (fraction_text c.args.places c.args.fraction)
+    (fraction_next c.args.places c.args.fraction c.digit_char.result (omega (arith, c.if-places-eq0.false)) c.digit_char.ensures.0 c.digit_char.ensures.1 (omega (arith, c.if-rest-eq0.false)))
+    (c.in_ok-write_char.ensures.writes plain (refl {a = true})) (λ after. c.write_fraction.ensures after ok)

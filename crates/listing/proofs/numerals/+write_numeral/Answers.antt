@@ -10,7 +10,7 @@ returns-then-count-eq0 g t c plain ok =
 
 pub returns : goal.returns
 returns g t c plain ok =
-    put_both g.W.Write.write_str_gives c.args.f.now c.write_numeral.new.f c.write-char.new.self
-    (numeral_text c.args.base (c.args.count - 1) (c.args.number / c.args.base)) (encode c.digit-char.result) (numeral_text c.args.base c.args.count c.args.number)
-    (numeral_last c.args.base c.args.count c.args.number c.digit-char.result (omega (arith, c.if-count-eq0.false)) c.digit-char.ensures.0 c.digit-char.ensures.1)
-    (c.in_ok-write_numeral.ensures plain (refl {a = true})) (λ after. c.write-char.ensures.writes after ok)
+    put_both g.W.Write.write_str_gives c.args.f.now c.write_numeral.new.f c.write_char.new.self
+    (numeral_text c.args.base (c.args.count - 1) (c.args.number / c.args.base)) (encode c.digit_char.result) (numeral_text c.args.base c.args.count c.args.number)
+    (numeral_last c.args.base c.args.count c.args.number c.digit_char.result (omega (arith, c.if-count-eq0.false)) c.digit_char.ensures.0 c.digit_char.ensures.1)
+    (c.in_ok-write_numeral.ensures plain (refl {a = true})) (λ after. c.write_char.ensures.writes after ok)

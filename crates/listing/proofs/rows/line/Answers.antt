@@ -1,11 +1,11 @@
-use Rattle.std.proofs.Common.{string_bytes, arith}
+use Rattle.std.proofs.Common.{string_bytes}
 use Rattle.std.proofs.lemmas.Result.{IfOk-weaker}
 use Rattle.listing.proofs.RowLaws.{fits, line}
 use Rattle.listing.proofs.rows.line.Goals as goal
 
 pub invariant_of-read : goal.invariant_of-read
 invariant_of-read g c =
-    let (near, small) = fits _ (g.met.F.Format.lawful c.args.format.now) c.args.code c.args.reading c.requires in (near, (small, tt))
+    let (near, small) = fits _ (g.met.F.Format.lawful c.args.format.now) c.args.code c.args.reading c.requires in record { near = near; fits = small }
 
 pub returns : goal.returns
 returns g c =

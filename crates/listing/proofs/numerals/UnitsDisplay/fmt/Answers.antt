@@ -12,4 +12,4 @@ returns-clause-writes g c plain ok =
     put_both g.W.Write.write_str_gives c.args.f.now c.write.new.self c.write_fraction.new.f
     (c.if-self.sign.now ++ (decimal (n / 2 ^ 32) ++ codes ".")) (fraction_text 32 (n % 2 ^ 32)) (units_text b n)
     (units_written b n c.if-self.sign.now sign)
-    (c.in_ok-write.ensures.shows plain (refl {a = true})) (λ after. c.write_fraction.ensures after ok)
+    (c.in_ok-write.ensures.writes plain (refl {a = true})) (λ after. c.write_fraction.ensures after ok)
