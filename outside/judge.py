@@ -1,7 +1,7 @@
 #!/usr/bin/env python3
 """Judges sheets apart from the bench, by fractions of whole numbers, and compares.
 
-    python3 outside/judge.py target/bin/bench SEED COUNT
+    python3 outside/judge.py crates/bench/out/bench SEED COUNT
 
 makes COUNT sheets of scattered records from SEED, runs the program on each, and holds what it prints to
 what is worked out here: decode, exact sum, round to precision, saturate, encode. No line is shared with the bench.
