@@ -42,7 +42,7 @@ loop-rest-preserved c =
 pub returns-in-Err : goal.returns-in-Err
 returns-in-Err c =
     let some : 0 < length c.loop-rest.rest.now = search rules in
-    done_fault c.args.sheet.now (vec_items c.args.lines.now) _ c.loop-rest.bench c.loop-rest.place c.loop-rest.number _ c.in-Err.fault c.loop-rest.invariant some
+    done_fault c.args.sheet.now (vec_items c.args.lines.now) _ c.loop-rest.bench c.loop-rest.place c.loop-rest.number _ _ c.loop-rest.invariant some
     c.in-Err.ensures
 
 pub returns : goal.returns
