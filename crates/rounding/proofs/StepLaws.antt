@@ -15,25 +15,23 @@ use Rattle.layout.proofs.SizeLaws.{size_aligned}
 use Rattle.formats.specs.Meaning.{Meaning, Lawful, Coded}
 use Rattle.formats.specs.Readings.{fine}
 use Rattle.formats.specs.Value.{Value, nan, infinite, finite, signed, finer}
-use Rattle.formats.specs.ValueLaws.{same_finite, not_infinite, not_nan, signed-*, signed_abs}
+use Rattle.formats.specs.ValueLaws.{signed-*, signed_abs}
 use Rattle.sums.specs.Cuts.{CutAt}
 use Rattle.sums.specs.Sums.{value_of, value, size}
 use Rattle.sums.specs.Words.{twos_complement}
 use Rattle.sums.specs.declared.magnitude.Cut.{Cut}
-use Rattle.sums.specs.declared.sum.Standing.{Standing}
-use Rattle.sums.specs.declared.sum.Standing.TheVariants.{NotANumber, PositiveInfinity, NegativeInfinity, Finite}
+use Rattle.sums.specs.declared.sum.Standing.TheVariants.{Finite}
 use Rattle.sums.specs.declared.sum.Sum.{Sum}
 use Rattle.rounding.specs.Answers.{Answers, IsPlaced, Settles, inward_mark, outward_mark, cut_mark, cut_away}
-use Rattle.rounding.specs.Laws.{AnswersNearest, NearestFor}
 use Rattle.rounding.specs.Projection.{last_place, significand_of, left_of, remainder_of, is_odd, goes_away, rounded, of_overflow, of_size, answered, projected, mark_of}
-use Rattle.rounding.specs.Rule.{Rule, NearestAt}
+use Rattle.rounding.specs.Rule.{Rule}
 use Rattle.rounding.specs.declared.answers.Mark.{Mark}
 use Rattle.rounding.specs.declared.answers.Mark.TheVariants.{Exact}
 use Rattle.rounding.specs.declared.answers.Saturation.{Saturation}
 use Rattle.rounding.specs.declared.project.Answer.{Answer}
 use Rattle.rounding.specs.declared.project.Placed.{Placed}
 use Rattle.rounding.proofs.CellLaws.{in_units}
-use Rattle.rounding.proofs.RoundLaws.{size_ways, answered_coded, keeps_nearest}
+use Rattle.rounding.proofs.RoundLaws.{size_ways, answered_coded}
 use Rattle.rounding.proofs.SizedLaws.{below_half, at_half, above_half, largest_fine, rounded_most, place_some}
 
 -- ±s × 2^e as a finer ±n
@@ -247,19 +245,3 @@ sum_answers m rule mode sum p a stands is settles =
     rw v
     (subst (λ y. Answers (finite y) (of_size m rule mode (not (non_neg x)) (nat_abs x)) a) (signed_abs x)
     (subst (λ y. Answers (finite (signed y (nat_abs x))) (of_size m rule mode y (nat_abs x)) a) is.negative (settles (nat_abs x) is.place is.cut)))
-
--- a sum that is not finite has no nearest reading to show
-nearest_at : (m : Meaning) (rule : Rule) (mode : Saturation) → Lawful m → (t : Standing) (ws : List ℕ) → let x = twos_complement ws in NearestAt rule (not (non_neg x)) (is_odd (significand_of m (nat_abs x))) → NearestFor m rule mode (value_of t ws)
-nearest_at m rule mode laws NotANumber ws nearest x e = absurd (not_nan nan x refl e)
-nearest_at m rule mode laws PositiveInfinity ws nearest x e = absurd (not_infinite (infinite false) false x refl e)
-nearest_at m rule mode laws NegativeInfinity ws nearest x e = absurd (not_infinite (infinite true) true x refl e)
-nearest_at m rule mode laws Finite ws nearest x e =
-    subst (λ y. nat_abs y ≤ m.largest * 2 ^ 64 → AnswersNearest m rule mode y) (same_finite _ _ _ refl e)
-    (λ most. keeps_nearest m rule mode laws (twos_complement ws) most nearest)
-
-pub sum_nearest : (m : Meaning) (rule : Rule) (mode : Saturation) (sum : Sum) (p : Placed) → Lawful m → IsPlaced m sum p → NearestAt rule p.negative (is_odd p.cut.digits) → NearestFor m rule mode (value sum)
-sum_nearest m rule mode sum p laws is nearest =
-    let digits : significand_of m (size sum) ≡ p.cut.digits = digits_are m laws rule p.negative (size sum) p.place p.cut is.deep is.place is.cut in
-    nearest_at m rule mode laws sum.standing sum.words
-    (subst (λ y. NearestAt rule y (is_odd (significand_of m (size sum)))) is.negative
-    (subst (λ d. NearestAt rule p.negative (is_odd d)) (sym digits) nearest))

@@ -18,3 +18,7 @@ Monotone r = (negative odd : Bool) →
 -- "toward" below the half and "away" above it
 abbrev pub NearestAt : Rule → Bool → Bool → Type 0
 NearestAt r negative odd = (r.away negative odd BelowHalf ≡ false) × (r.away negative odd AboveHalf ≡ true)
+
+-- "toward" below the half and "away" above it, for either sign and parity
+abbrev pub Nearest : Rule → Type 0
+Nearest rule = (negative odd : Bool) → NearestAt rule negative odd

@@ -7,11 +7,11 @@ ghost use Rattle.sums.specs.Sums.{value, Sound};
 ghost use Rattle.sums.specs.Words.{number, Eight};
 ghost use Rattle.rounding.specs.Answers.{Answers, IsPlaced, Settles, inward_mark, outward_mark, cut_mark, cut_away};
 ghost use Rattle.rounding.specs.Laws.{KeepsOrder, KeepsReadings, NearestFor};
-ghost use Rattle.rounding.specs.Projection.{last_place, is_odd, end, of_infinity, of_overflow, answered, projected};
-ghost use Rattle.rounding.specs.Rule.{NearestAt};
+ghost use Rattle.rounding.specs.Projection.{last_place, end, of_infinity, of_overflow, answered, projected};
+ghost use Rattle.rounding.specs.Rule.{Nearest};
 
 use crate::answers::{Mark, Remainder, Saturation};
-use crate::rule::{NearestRule, RoundingRule};
+use crate::rule::RoundingRule;
 use formats::format::Format;
 use formats::reading::{Dyadic, Reading};
 use sums::magnitude::{Cut, Magnitude};
@@ -32,7 +32,8 @@ pub(crate) struct Answer {
     pub(crate) mark: Mark,
 }
 
-// The code and the mark of the sum's projection into the format.
+// The code and the mark of the sum's projection into the format. Where the rule goes to the nearer
+// neighbour and the sum is within the finite ends, no reading of the format is nearer.
 pub fn project<F: Format, R: RoundingRule>(
     format: &F,
     rule: &R,
@@ -43,46 +44,11 @@ pub fn project<F: Format, R: RoundingRule>(
     ensures projected { result ≡ projected (F.Format.meaning format.now) (R.RoundingRule.table rule.now) mode (value sum.now) }
     ensures order { KeepsOrder (F.Format.meaning format.now) (R.RoundingRule.table rule.now) mode }
     ensures readings { KeepsReadings (F.Format.meaning format.now) (R.RoundingRule.table rule.now) mode }
+    ensures nearest { Nearest (R.RoundingRule.table rule.now) → NearestFor (F.Format.meaning format.now) (R.RoundingRule.table rule.now) mode (value sum.now) }
 {
     let size = size_of(format, sum);
     let away = goes_away(rule, size.negative, &size.cut);
-    finish(format, rule, mode, sum, &size, away)
-}
-
-// The same for a rule that goes to the nearer neighbour: within the finite ends, no reading of the
-// format is nearer than the one that is answered.
-pub fn project_nearest<F: Format, R: NearestRule>(
-    format: &F,
-    rule: &R,
-    mode: Saturation,
-    sum: &Sum,
-) -> (u16, Mark)
-    requires { Sound sum.now }
-    ensures projected { result ≡ projected (F.Format.meaning format.now) (R.RoundingRule.table rule.now) mode (value sum.now) }
-    ensures nearest { NearestFor (F.Format.meaning format.now) (R.RoundingRule.table rule.now) mode (value sum.now) }
-{
-    let size = size_of(format, sum);
-    let away = nearest_away(rule, size.negative, &size.cut);
-    finish(format, rule, mode, sum, &size, away)
-}
-
-// The code and the mark for a sum whose size goes away from zero or not.
-fn finish<F: Format, R: RoundingRule>(
-    format: &F,
-    rule: &R,
-    mode: Saturation,
-    sum: &Sum,
-    size: &Placed,
-    away: bool,
-) -> (u16, Mark)
-    requires size { IsPlaced (F.Format.meaning format.now) sum.now size.now }
-    requires away { away ≡ cut_away (R.RoundingRule.table rule.now) size.now.negative size.now.cut }
-    ensures projected { result ≡ projected (F.Format.meaning format.now) (R.RoundingRule.table rule.now) mode (value sum.now) }
-    ensures order { KeepsOrder (F.Format.meaning format.now) (R.RoundingRule.table rule.now) mode }
-    ensures readings { KeepsReadings (F.Format.meaning format.now) (R.RoundingRule.table rule.now) mode }
-    ensures nearest { NearestAt (R.RoundingRule.table rule.now) size.now.negative (is_odd size.now.cut.digits) → NearestFor (F.Format.meaning format.now) (R.RoundingRule.table rule.now) mode (value sum.now) }
-{
-    let answer = answer_for(format, rule, mode, sum, size, away);
+    let answer = answer_for(format, rule, mode, sum, &size, away);
     (code(format, answer.reading), answer.mark)
 }
 
@@ -208,15 +174,6 @@ fn goes_away<R: RoundingRule>(rule: &R, negative: bool, cut: &Cut) -> bool
         (true, false) => rule.goes_away(negative, odd, Remainder::Half),
         (true, true) => rule.goes_away(negative, odd, Remainder::AboveHalf),
     }
-}
-
-// The same for a rule that goes to the nearer neighbour, by its word at the half.
-fn nearest_away<R: NearestRule>(rule: &R, negative: bool, cut: &Cut) -> bool
-    ensures away { result ≡ cut_away (R.RoundingRule.table rule.now) negative cut.now }
-    ensures nearest { NearestAt (R.RoundingRule.table rule.now) negative (is_odd cut.now.digits) }
-{
-    let at_half = rule.at_half(negative, cut.digits % 2 == 1);
-    cut.half && (cut.rest || at_half)
 }
 
 // The answer for a size that goes away from zero or not.
