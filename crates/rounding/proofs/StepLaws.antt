@@ -22,7 +22,7 @@ use Rattle.sums.specs.Words.{twos_complement}
 use Rattle.sums.specs.declared.magnitude.Cut.{Cut}
 use Rattle.sums.specs.declared.sum.Standing.TheVariants.{Finite}
 use Rattle.sums.specs.declared.sum.Sum.{Sum}
-use Rattle.rounding.specs.Answers.{Answers, IsPlaced, Settles, inward_mark, outward_mark, cut_mark, cut_away}
+use Rattle.rounding.specs.Answers.{Answers, IsPlaced, Settles, beside, cut_mark, cut_away}
 use Rattle.rounding.specs.Projection.{last_place, significand_of, left_of, remainder_of, is_odd, goes_away, rounded, of_overflow, of_size, answered, projected, mark_of}
 use Rattle.rounding.specs.Rule.{Rule}
 use Rattle.rounding.specs.declared.answers.Mark.{Mark}
@@ -102,11 +102,11 @@ beyond_place s place most h some lt =
 abbrev marked : Bool → ℕ → ℕ → Mark
 marked negative n k = mark_of (finite (signed negative n)) (finite (signed negative k))
 
-mark_inward : (negative : Bool) (n k : ℕ) → k * 2 ^ 64 < n → marked negative n k ≡ inward_mark negative
+mark_inward : (negative : Bool) (n k : ℕ) → k * 2 ^ 64 < n → marked negative n k ≡ beside negative
 mark_inward true n k lt = rw (signed-* true k (2 ^ 64)) (grind (arith, ints))
 mark_inward false n k lt = rw (lt-ltb (k * 2 ^ 64) n lt) refl
 
-mark_outward : (negative : Bool) (n k : ℕ) → n < k * 2 ^ 64 → marked negative n k ≡ outward_mark negative
+mark_outward : (negative : Bool) (n k : ℕ) → n < k * 2 ^ 64 → marked negative n k ≡ beside (not negative)
 mark_outward true n k lt = rw (signed-* true k (2 ^ 64)) (grind (arith, ints))
 mark_outward false n k lt = rw (le-ltb (k * 2 ^ 64) n (omega arith), lt-ltb n (k * 2 ^ 64) lt) refl
 
@@ -185,7 +185,7 @@ module _ (m : Meaning) (laws : Lawful m) (rule : Rule) (negative : Bool) (n plac
   size_is : n ≡ cut.digits * 2 ^ place + n % 2 ^ place
   size_is = rw is.digits (sym (split n place))
 
-  by_away : (away : Bool) (s : ℕ) → s ≡ cut.digits + bool_byte away → 0 < n % 2 ^ place → marked negative n (s * 2 ^ (place - 64)) ≡ cond away (outward_mark negative) (inward_mark negative)
+  by_away : (away : Bool) (s : ℕ) → s ≡ cut.digits + bool_byte away → 0 < n % 2 ^ place → marked negative n (s * 2 ^ (place - 64)) ≡ beside (cond away (not negative) negative)
   by_away true s e left =
       let next : s * 2 ^ place ≡ cut.digits * 2 ^ place + 2 ^ place = rw (e, add-one cut.digits) (suc-mul cut.digits (2 ^ place)) in
       let below : n % 2 ^ place < 2 ^ place = mod-lt n (pow_pos place) in

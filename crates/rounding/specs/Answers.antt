@@ -1,5 +1,5 @@
 -- What the steps of the projection answer.
-use Rattle.std.specs.Prelude.{◌≡◌, ℕ, ◌^◌, ◌<◌, ◌≤◌, Bool, false, cond, ◌||◌}
+use Rattle.std.specs.Prelude.{◌≡◌, ℕ, ◌^◌, ◌<◌, ◌≤◌, Bool, false, not, cond, ◌||◌}
 use Rattle.formats.specs.Meaning.{Meaning}
 use Rattle.formats.specs.Readings.{fine}
 use Rattle.formats.specs.Value.{Value, finite, signed, finer}
@@ -21,16 +21,13 @@ pub record Answers (x v : Value) (a : Answer) : Type 0 where
   pub reading : fine a.reading ≡ finer 96 v
   pub mark : a.mark ≡ mark_of x v
 
--- the mark of a reading nearer to zero than the value, and of one farther from it
-abbrev pub inward_mark : Bool → Mark
-inward_mark negative = cond negative High Low
-
-abbrev pub outward_mark : Bool → Mark
-outward_mark negative = cond negative Low High
+-- the mark of a reading above the value, and of one below it
+abbrev pub beside : Bool → Mark
+beside above = cond above High Low
 
 -- the mark of a number cut at a bit, which goes to the next one away from zero or not
 abbrev pub cut_mark : Bool → Cut → Bool → Mark
-cut_mark negative cut away = cond (cut.half || cut.rest) (cond away (outward_mark negative) (inward_mark negative)) Exact
+cut_mark negative cut away = cond (cut.half || cut.rest) (beside (cond away (not negative) negative)) Exact
 
 -- whether a number cut at a bit goes to the next one away from zero
 abbrev pub cut_away : Rule → Bool → Cut → Bool

@@ -5,7 +5,7 @@ ghost use Rattle.formats.specs.Readings.{fine};
 ghost use Rattle.formats.specs.Value.{Value, infinite, finite, signed, finer};
 ghost use Rattle.sums.specs.Sums.{value, Sound};
 ghost use Rattle.sums.specs.Words.{number, Eight};
-ghost use Rattle.rounding.specs.Answers.{Answers, IsPlaced, Settles, inward_mark, outward_mark, cut_mark, cut_away};
+ghost use Rattle.rounding.specs.Answers.{Answers, IsPlaced, Settles, beside, cut_mark, cut_away};
 ghost use Rattle.rounding.specs.Laws.{KeepsOrder, KeepsReadings, NearestFor};
 ghost use Rattle.rounding.specs.Projection.{last_place, end, of_infinity, of_overflow, answered, projected};
 ghost use Rattle.rounding.specs.Rule.{Nearest};
@@ -16,6 +16,33 @@ use formats::format::Format;
 use formats::reading::{Dyadic, Reading};
 use sums::magnitude::{Cut, Magnitude};
 use sums::sum::{Standing, Sum};
+
+// The code and the mark of the sum's projection into the format. Where the rule goes to the nearer
+// neighbour and the sum is within the finite ends, no reading of the format is nearer.
+pub fn project<F: Format, R: RoundingRule>(
+    format: &F,
+    rule: &R,
+    mode: Saturation,
+    sum: &Sum,
+) -> (u16, Mark)
+    requires { Sound sum.now }
+    ensures projected { result ≡ projected (F.Format.meaning format.now) (R.RoundingRule.table rule.now) mode (value sum.now) }
+    ensures order { KeepsOrder (F.Format.meaning format.now) (R.RoundingRule.table rule.now) mode }
+    ensures readings { KeepsReadings (F.Format.meaning format.now) (R.RoundingRule.table rule.now) mode }
+    ensures nearest { Nearest (R.RoundingRule.table rule.now) → NearestFor (F.Format.meaning format.now) (R.RoundingRule.table rule.now) mode (value sum.now) }
+{
+    let target = Target { format, rule, mode };
+    let answer = target.answer(sum);
+    (target.code(answer.reading), answer.mark)
+}
+
+// Where a value is rounded to, and how.
+#[derive(Clone, Copy)]
+struct Target<'a, F, R> {
+    format: &'a F,
+    rule: &'a R,
+    mode: Saturation,
+}
 
 // The sign and the size of a sum, which is cut at the place of the last digit, counted from 2^-96.
 #[derive(Clone, Copy)]
@@ -32,83 +59,142 @@ pub(crate) struct Answer {
     pub(crate) mark: Mark,
 }
 
-// The code and the mark of the sum's projection into the format. Where the rule goes to the nearer
-// neighbour and the sum is within the finite ends, no reading of the format is nearer.
-pub fn project<F: Format, R: RoundingRule>(
-    format: &F,
-    rule: &R,
-    mode: Saturation,
-    sum: &Sum,
-) -> (u16, Mark)
-    requires { Sound sum.now }
-    ensures projected { result ≡ projected (F.Format.meaning format.now) (R.RoundingRule.table rule.now) mode (value sum.now) }
-    ensures order { KeepsOrder (F.Format.meaning format.now) (R.RoundingRule.table rule.now) mode }
-    ensures readings { KeepsReadings (F.Format.meaning format.now) (R.RoundingRule.table rule.now) mode }
-    ensures nearest { Nearest (R.RoundingRule.table rule.now) → NearestFor (F.Format.meaning format.now) (R.RoundingRule.table rule.now) mode (value sum.now) }
-{
-    let size = size_of(format, sum);
-    let away = goes_away(rule, size.negative, &size.cut);
-    let answer = answer_for(format, rule, mode, sum, &size, away);
-    (code(format, answer.reading), answer.mark)
-}
-
-// The code of a reading that the format has.
-fn code<F: Format>(format: &F, reading: Reading) -> u16
-    ensures { (v : Value) → finer 96 v ≡ fine reading → Coded (F.Format.meaning format.now) v → result ≡ (F.Format.meaning format.now).encode v }
-{
-    format.encode(reading).unwrap_or(0)
-}
-
-fn answer_for<F: Format, R: RoundingRule>(
-    format: &F,
-    rule: &R,
-    mode: Saturation,
-    sum: &Sum,
-    size: &Placed,
-    away: bool,
-) -> Answer
-    requires size { IsPlaced (F.Format.meaning format.now) sum.now size.now }
-    requires away { away ≡ cut_away (R.RoundingRule.table rule.now) size.now.negative size.now.cut }
-    ensures { Answers (value sum.now) (answered (F.Format.meaning format.now) (R.RoundingRule.table rule.now) mode (value sum.now)) result }
-{
-    match sum.standing {
-        Standing::NotANumber => Answer {
-            reading: Reading::Nan,
-            mark: Mark::Unordered,
-        },
-        Standing::PositiveInfinity => of_infinity(format, mode, false),
-        Standing::NegativeInfinity => of_infinity(format, mode, true),
-        Standing::Finite => of_size(format, rule, mode, size, away),
+impl<F: Format, R: RoundingRule> Target<'_, F, R> {
+    // The code of a reading that the format has.
+    fn code(&self, reading: Reading) -> u16
+        ensures { (v : Value) → finer 96 v ≡ fine reading → Coded (F.Format.meaning self.now.format.now) v → result ≡ (F.Format.meaning self.now.format.now).encode v }
+    {
+        self.format.encode(reading).unwrap_or(0)
     }
-}
 
-fn of_infinity<F: Format>(format: &F, mode: Saturation, negative: bool) -> Answer
-    ensures { Answers (infinite negative) (of_infinity (F.Format.meaning format.now) mode negative) result }
-{
-    match mode {
-        Saturation::SatFinite => Answer {
-            reading: end(format, negative),
-            mark: inward(negative),
-        },
-        _ => Answer {
-            reading: infinity(negative),
-            mark: Mark::Exact,
-        },
+    fn answer(&self, sum: &Sum) -> Answer
+        requires { Sound sum.now }
+        ensures { Answers (value sum.now) (answered (F.Format.meaning self.now.format.now) (R.RoundingRule.table self.now.rule.now) self.now.mode (value sum.now)) result }
+    {
+        match sum.standing {
+            Standing::NotANumber => Answer {
+                reading: Reading::Nan,
+                mark: Mark::Unordered,
+            },
+            Standing::PositiveInfinity => self.of_infinity(false),
+            Standing::NegativeInfinity => self.of_infinity(true),
+            Standing::Finite => self.of_size(&self.placed(sum)),
+        }
     }
-}
 
-// The mark of an answer nearer to zero than the value.
-fn inward(negative: bool) -> Mark
-    ensures { result ≡ inward_mark negative }
-{
-    if negative { Mark::High } else { Mark::Low }
-}
+    fn of_infinity(&self, negative: bool) -> Answer
+        ensures { Answers (infinite negative) (of_infinity (F.Format.meaning self.now.format.now) self.now.mode negative) result }
+    {
+        match self.mode {
+            Saturation::SatFinite => Answer {
+                reading: self.end(negative),
+                mark: beside(negative),
+            },
+            _ => Answer {
+                reading: infinity(negative),
+                mark: Mark::Exact,
+            },
+        }
+    }
 
-// The mark of an answer farther from zero than the value.
-fn outward(negative: bool) -> Mark
-    ensures { result ≡ outward_mark negative }
-{
-    if negative { Mark::Low } else { Mark::High }
+    // The answer for a finite value that is so cut at its last place.
+    fn of_size(&self, size: &Placed) -> Answer
+        requires { (64 ≤ size.now.place) × (size.now.cut.digits < 2 ^ 12) }
+        ensures { Settles (F.Format.meaning self.now.format.now) (R.RoundingRule.table self.now.rule.now) self.now.mode size.now result }
+    {
+        let away = self.goes_away(size.negative, &size.cut);
+        let significand = size.cut.digits + u32::from(away);
+        if self.within(significand, size.place) {
+            Answer {
+                reading: finite(size.negative, significand, size.place),
+                mark: mark(size.negative, &size.cut, away),
+            }
+        } else {
+            self.of_overflow(size.negative)
+        }
+    }
+
+    // The answer for a finite value beyond the finite end.
+    fn of_overflow(&self, negative: bool) -> Answer
+        ensures { (n : ℕ) → (F.Format.meaning self.now.format.now).largest * 2 ^ 64 < n → Answers (finite (signed negative n)) (of_overflow (F.Format.meaning self.now.format.now) (R.RoundingRule.table self.now.rule.now) self.now.mode negative) result }
+    {
+        if self.mode == Saturation::OvfInf && self.rule.overflows_to_infinity(negative) {
+            Answer {
+                reading: infinity(negative),
+                mark: beside(!negative),
+            }
+        } else {
+            Answer {
+                reading: self.end(negative),
+                mark: beside(negative),
+            }
+        }
+    }
+
+    // Whether the rule goes away from zero, where anything is left below the cut.
+    fn goes_away(&self, negative: bool, cut: &Cut) -> bool
+        ensures { result ≡ cut_away (R.RoundingRule.table self.now.rule.now) negative cut.now }
+    {
+        let odd = cut.digits % 2 == 1;
+        match (cut.half, cut.rest) {
+            (false, false) => false,
+            (false, true) => self.rule.goes_away(negative, odd, Remainder::BelowHalf),
+            (true, false) => self.rule.goes_away(negative, odd, Remainder::Half),
+            (true, true) => self.rule.goes_away(negative, odd, Remainder::AboveHalf),
+        }
+    }
+
+    // The sign and the size of the sum, cut at its last place.
+    fn placed(&self, sum: &Sum) -> Placed
+        requires { Sound sum.now }
+        ensures { IsPlaced (F.Format.meaning self.now.format.now) sum.now result }
+    {
+        let size = sum.magnitude();
+        let place = self.last_place(&size);
+        Placed {
+            negative: sum.is_negative(),
+            place,
+            cut: size.cut(place),
+        }
+    }
+
+    // The place of the last digit, counted from 2^-96: the greater of the least exponent and that which
+    // leaves `precision` digits.
+    fn last_place(&self, size: &Magnitude) -> u32
+        requires { Eight size.now.words }
+        ensures place { result ≡ last_place (F.Format.meaning self.now.format.now) (number size.now.words) }
+        ensures bounds { (64 ≤ result) × (result < 256) }
+        ensures fits { number size.now.words < 2 ^ (12 + result) }
+    {
+        let shape = self.format.shape();
+        let least = (i32::from(shape.least_exponent) + 96).unsigned_abs();
+        let full = size.bit_length().saturating_sub(u32::from(shape.precision));
+        full.max(least)
+    }
+
+    // Whether significand × 2^(place - 96) is not beyond the finite end.
+    fn within(&self, significand: u32, place: u32) -> bool
+        requires { (64 ≤ place) × (significand ≤ 2 ^ 12) }
+        ensures within { result ≡ true → (place < 128) × (significand * 2 ^ place ≤ (F.Format.meaning self.now.format.now).largest * 2 ^ 64) }
+        ensures beyond { result ≡ false → (128 ≤ place → 0 < significand) → (F.Format.meaning self.now.format.now).largest * 2 ^ 64 < significand * 2 ^ place }
+    {
+        let largest = u128::from(self.format.shape().largest);
+        place < 128 && u128::from(significand) << (place - 64) <= largest
+    }
+
+    // The largest finite value with a sign.
+    fn end(&self, negative: bool) -> Reading
+        ensures { fine result ≡ finer 96 (end (F.Format.meaning self.now.format.now) negative) }
+    {
+        let shape = self.format.shape();
+        let digits = 64 - shape.largest.leading_zeros();
+        let shift = digits.saturating_sub(u32::from(shape.precision));
+        Reading::Finite(Dyadic {
+            negative,
+            significand: (shape.largest >> shift) as u16,
+            exponent: shift as i8 - 32,
+        })
+    }
 }
 
 fn infinity(negative: bool) -> Reading
@@ -121,93 +207,6 @@ fn infinity(negative: bool) -> Reading
     }
 }
 
-// The largest finite value with a sign.
-fn end<F: Format>(format: &F, negative: bool) -> Reading
-    ensures { fine result ≡ finer 96 (end (F.Format.meaning format.now) negative) }
-{
-    let shape = format.shape();
-    let digits = 64 - shape.largest.leading_zeros();
-    let shift = digits.saturating_sub(u32::from(shape.precision));
-    Reading::Finite(Dyadic {
-        negative,
-        significand: (shape.largest >> shift) as u16,
-        exponent: shift as i8 - 32,
-    })
-}
-
-// The sign and the size of the sum; a sum that is not finite has the size zero.
-fn size_of<F: Format>(format: &F, sum: &Sum) -> Placed
-    requires { Sound sum.now }
-    ensures { IsPlaced (F.Format.meaning format.now) sum.now result }
-{
-    let size = sum.magnitude();
-    let place = last_place(format, &size);
-    Placed {
-        negative: sum.is_negative(),
-        place,
-        cut: size.cut(place),
-    }
-}
-
-// The place of the last digit, counted from 2^-96: the greater of the least exponent and that which
-// leaves `precision` digits.
-fn last_place<F: Format>(format: &F, size: &Magnitude) -> u32
-    requires { Eight size.now.words }
-    ensures place { result ≡ last_place (F.Format.meaning format.now) (number size.now.words) }
-    ensures bounds { (64 ≤ result) × (result < 256) }
-    ensures fits { number size.now.words < 2 ^ (12 + result) }
-{
-    let shape = format.shape();
-    let least = (i16::from(shape.least_exponent) + 96).unsigned_abs();
-    let full = size.bit_length().saturating_sub(u32::from(shape.precision));
-    full.max(u32::from(least))
-}
-
-// Whether the rule goes away from zero, where anything is left below the cut.
-fn goes_away<R: RoundingRule>(rule: &R, negative: bool, cut: &Cut) -> bool
-    ensures { result ≡ cut_away (R.RoundingRule.table rule.now) negative cut.now }
-{
-    let odd = cut.digits % 2 == 1;
-    match (cut.half, cut.rest) {
-        (false, false) => false,
-        (false, true) => rule.goes_away(negative, odd, Remainder::BelowHalf),
-        (true, false) => rule.goes_away(negative, odd, Remainder::Half),
-        (true, true) => rule.goes_away(negative, odd, Remainder::AboveHalf),
-    }
-}
-
-// The answer for a size that goes away from zero or not.
-fn of_size<F: Format, R: RoundingRule>(
-    format: &F,
-    rule: &R,
-    mode: Saturation,
-    size: &Placed,
-    away: bool,
-) -> Answer
-    requires size { (64 ≤ size.now.place) × (size.now.cut.digits < 2 ^ 12) }
-    requires away { away ≡ cut_away (R.RoundingRule.table rule.now) size.now.negative size.now.cut }
-    ensures { Settles (F.Format.meaning format.now) (R.RoundingRule.table rule.now) mode size.now result }
-{
-    let significand = size.cut.digits + u32::from(away);
-    if within(format, significand, size.place) {
-        Answer {
-            reading: finite(size.negative, significand, size.place),
-            mark: mark(size.negative, &size.cut, away),
-        }
-    } else {
-        of_overflow(format, rule, mode, size.negative)
-    }
-}
-
-// Whether significand × 2^(place - 96) is not beyond the finite end.
-fn within<F: Format>(format: &F, significand: u32, place: u32) -> bool
-    requires { (64 ≤ place) × (significand ≤ 2 ^ 12) }
-    ensures within { result ≡ true → (place < 128) × (significand * 2 ^ place ≤ (F.Format.meaning format.now).largest * 2 ^ 64) }
-    ensures beyond { result ≡ false → (128 ≤ place → 0 < significand) → (F.Format.meaning format.now).largest * 2 ^ 64 < significand * 2 ^ place }
-{
-    place < 128 && u128::from(significand) << (place - 64) <= u128::from(format.shape().largest)
-}
-
 // The reading of ±significand × 2^(place - 96).
 fn finite(negative: bool, significand: u32, place: u32) -> Reading
     requires { (significand ≤ 2 ^ 12) × ((64 ≤ place) × (place < 128)) }
@@ -216,7 +215,7 @@ fn finite(negative: bool, significand: u32, place: u32) -> Reading
     Reading::Finite(Dyadic {
         negative,
         significand: significand as u16,
-        exponent: (place as i16 - 96) as i8,
+        exponent: place as i8 - 96,
     })
 }
 
@@ -224,37 +223,16 @@ fn finite(negative: bool, significand: u32, place: u32) -> Reading
 fn mark(negative: bool, cut: &Cut, away: bool) -> Mark
     ensures { result ≡ cut_mark negative cut.now away }
 {
-    if !cut.half && !cut.rest {
-        Mark::Exact
-    } else if away {
-        outward(negative)
+    if cut.half || cut.rest {
+        beside(negative != away)
     } else {
-        inward(negative)
+        Mark::Exact
     }
 }
 
-// The answer for a finite value beyond the finite end.
-fn of_overflow<F: Format, R: RoundingRule>(
-    format: &F,
-    rule: &R,
-    mode: Saturation,
-    negative: bool,
-) -> Answer
-    ensures { (n : ℕ) → (F.Format.meaning format.now).largest * 2 ^ 64 < n → Answers (finite (signed negative n)) (of_overflow (F.Format.meaning format.now) (R.RoundingRule.table rule.now) mode negative) result }
+// The mark of an answer above the value, or of one below it.
+fn beside(above: bool) -> Mark
+    ensures { result ≡ beside above }
 {
-    let infinite = match mode {
-        Saturation::OvfInf => rule.overflows_to_infinity(negative),
-        _ => false,
-    };
-    if infinite {
-        Answer {
-            reading: infinity(negative),
-            mark: outward(negative),
-        }
-    } else {
-        Answer {
-            reading: end(format, negative),
-            mark: inward(negative),
-        }
-    }
+    if above { Mark::High } else { Mark::Low }
 }

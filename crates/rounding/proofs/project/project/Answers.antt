@@ -10,7 +10,7 @@ returns g c =
     let rule = g.R.RoundingRule.table c.args.rule.now in
     let mode = c.args.mode in
     record {
-      projected = projected_is m rule mode (value c.args.sum.now) c.answer_for-answer.result c.code.result laws c.answer_for-answer.ensures c.code.ensures;
+      projected = projected_is m rule mode (value c.args.sum.now) c.answer-answer.result c.code.result laws c.answer-answer.ensures c.code.ensures;
       order = keeps_order m rule mode laws (g.met.R.RoundingRule.monotone c.args.rule.now);
       readings = keeps_readings m rule mode laws;
       nearest = λ nearest x e most. keeps_nearest m rule mode laws x most (nearest _ _);
