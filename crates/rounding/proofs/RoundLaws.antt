@@ -1,5 +1,5 @@
 -- The projection keeps order, readings and nearness.
-use Rattle.std.proofs.Common.{◌≡◌, ℕ, zero, suc, ◌+◌, ◌*◌, ◌/◌, ◌^◌, ◌<◌, ◌≤◌, Bool, true, false, not, ◌⊎◌, ℤ, pos, negsuc, ◌-ℤ◌, ◌*ℤ◌, neg_ℤ, nat_abs, sym, refl, ap, ◌∙◌, inl, inr, ⊎_elim, arith}
+use Rattle.std.proofs.Common.{◌≡◌, ℕ, zero, suc, ◌+◌, ◌*◌, ◌/◌, ◌^◌, ◌<◌, ◌≤◌, Bool, true, false, not, ◌⊎◌, ℤ, pos, negsuc, ◌-ℤ◌, ◌*ℤ◌, neg_ℤ, nat_abs, sym, refl, ap, ◌∙◌, inl, inr, ⊎_elim, arith, rules}
 use lib.Pow.{shl-shr}
 use lib.Signed.{lt_z, non_neg}
 use Rattle.std.proofs.lemmas.Bool.{cases_lt, cond_both, le-leb, lt-leb, le-ltb, ltb-true, false≢true}
@@ -28,47 +28,34 @@ Beyond m rule mode negative n =
 
 pub size_ways : (m : Meaning) (rule : Rule) (mode : Saturation) (negative : Bool) (n : ℕ) → Within m rule mode negative n ⊎ Beyond m rule mode negative n
 unfolding of_size
-size_ways m rule mode negative n =
-    ⊎_elim
-    (λ lt. inr (lt, rw (lt-leb (rounded m rule negative n) (m.largest * 2 ^ 64) lt) refl))
-    (λ le. inl (le, rw (le-leb (rounded m rule negative n) (m.largest * 2 ^ 64) le) refl))
-    (cases_lt (m.largest * 2 ^ 64) (rounded m rule negative n))
+size_ways m rule mode negative n = search rules
 
 -- the sign of a product
 negative_size : (n : ℕ) → 0 < n → non_neg (neg_ℤ (pos n)) ≡ false
-negative_size zero h = absurd (omega arith)
-negative_size (suc n) h = refl
+negative_size y0 h = search rules
 
 sign_finer : (z : ℤ) → non_neg (z *ℤ pos (2 ^ 64)) ≡ non_neg z
-sign_finer (pos n) = refl
-sign_finer (negsuc n) = negative_size (suc n * 2 ^ 64) (omega arith)
+sign_finer y0 = search rules
 
 not_itself : (z : ℤ) → lt_z z z ≡ false
-not_itself (pos n) = le-ltb n n (omega arith)
-not_itself (negsuc n) = le-ltb n n (omega arith)
+not_itself y0 = search rules
 
 mark_exact : (z : ℤ) → mark_of (finite (z *ℤ pos (2 ^ 64))) (finite z) ≡ Exact
-mark_exact z = rw (not_itself (z *ℤ pos (2 ^ 64))) refl
+mark_exact z = search rules
 
 -- a value at a distance g from x, where each size of v is at least as far
 near : (x v : ℤ) (r g : ℕ) → r ≤ nat_abs x + g → nat_abs x ≤ r + g → g ≤ nat_abs x → (nat_abs v + g ≤ nat_abs x) ⊎ (nat_abs x + g ≤ nat_abs v) → nat_abs (signed (not (non_neg x)) r -ℤ x) ≤ nat_abs (v -ℤ x)
-near (pos n) v r g a b c d = ⊎_elim (λ l. omega (arith, ints)) (λ l. omega (arith, ints)) d
-near (negsuc n) v r g a b c d = ⊎_elim (λ l. omega (arith, ints)) (λ l. omega (arith, ints)) d
+near y0 v r g a b c d = search rules
 
 module _ (m : Meaning) (laws : Lawful m) where
   end_coded : (negative : Bool) → Coded m (end m negative)
-  end_coded negative = laws.finite_read (signed negative m.largest) (rw (abs_signed negative m.largest) laws.largest_read)
+  end_coded negative = search rules
 
   infinity_coded : (mode : Saturation) (negative : Bool) → Coded m (of_infinity m mode negative)
-  infinity_coded SatFinite negative = end_coded negative
-  infinity_coded SatPropagate negative = laws.infinite_read negative
-  infinity_coded OvfInf negative = laws.infinite_read negative
+  infinity_coded y0 negative = grind (arith, ints)
 
   overflow_coded : (rule : Rule) (mode : Saturation) (negative : Bool) → Coded m (of_overflow m rule mode negative)
-  overflow_coded rule SatFinite negative = end_coded negative
-  overflow_coded rule SatPropagate negative = end_coded negative
-  overflow_coded rule OvfInf negative =
-      cond_both (rule.overflows negative) (infinite negative) (end m negative) (Coded m) (λ e. laws.infinite_read negative) (λ e. end_coded negative)
+  overflow_coded rule y1 negative = grind (arith, ints)
 
   size_coded : (rule : Rule) (mode : Saturation) (negative : Bool) (n : ℕ) → Coded m (of_size m rule mode negative n)
   size_coded rule mode negative n =
@@ -131,70 +118,37 @@ Inside true v w = less v w ≡ false
 Inside false v w = less w v ≡ false
 
 inside_finite : (negative : Bool) (a b : ℕ) → a ≤ b → Inside negative (finite (signed negative a)) (finite (signed negative b))
-inside_finite true a b le = grind (arith, ints)
-inside_finite false a b le = le-ltb b a le
+inside_finite y0 a b le = search rules
 
 inside_infinite : (negative : Bool) (a : ℕ) → Inside negative (finite (signed negative a)) (infinite negative)
-inside_infinite true a = refl
-inside_infinite false a = refl
+inside_infinite y0 a = search rules
 
 inside_same : (negative : Bool) (v : Value) → Inside negative v v
-inside_same true nan = refl
-inside_same true (infinite true) = refl
-inside_same true (infinite false) = refl
-inside_same true (finite z) = not_itself z
-inside_same false nan = refl
-inside_same false (infinite true) = refl
-inside_same false (infinite false) = refl
-inside_same false (finite z) = not_itself z
+inside_same y0 y1 = search rules
 
 -- v is zero or has the sign
 abbrev Sided : Bool → Value → Type 0
 Sided negative v = Inside negative (finite (pos 0)) v
 
 sided_finite : (negative : Bool) (n : ℕ) → Sided negative (finite (signed negative n))
-sided_finite true n = inside_finite true 0 n (omega arith)
-sided_finite false n = inside_finite false 0 n (omega arith)
+sided_finite y0 n = search rules
 
 sided_infinite : (negative : Bool) → Sided negative (infinite negative)
-sided_infinite true = refl
-sided_infinite false = refl
+sided_infinite y0 = search rules
 
 across : (v w : Value) → Sided true v → Sided false w → less w v ≡ false
-across nan nan a b = refl
-across nan (infinite t) a b = refl
-across nan (finite y) a b = refl
-across (infinite s) nan a b = refl
-across (infinite true) (infinite true) a b = refl
-across (infinite true) (infinite false) a b = refl
-across (infinite false) (infinite t) a b = absurd (false≢true (sym a))
-across (infinite true) (finite y) a b = refl
-across (infinite false) (finite y) a b = absurd (false≢true (sym a))
-across (finite x) nan a b = refl
-across (finite x) (infinite true) a b = absurd (false≢true (sym b))
-across (finite x) (infinite false) a b = refl
-across (finite x) (finite y) a b = grind (arith, ints)
+across v w a b = search rules
 
 module _ (m : Meaning) (laws : Lawful m) (rule : Rule) (mode : Saturation) where
   -- the end is inside what a size beyond it is answered, and that is inside what an infinity is answered
   inside_overflow : (way : Saturation) (negative : Bool) (a : ℕ) → a ≤ m.largest → Inside negative (finite (signed negative a)) (of_overflow m rule way negative)
-  inside_overflow SatFinite negative a le = inside_finite negative a m.largest le
-  inside_overflow SatPropagate negative a le = inside_finite negative a m.largest le
-  inside_overflow OvfInf negative a le =
-      cond_both (rule.overflows negative) (infinite negative) (end m negative) (Inside negative (finite (signed negative a)))
-      (λ e. inside_infinite negative a) (λ e. inside_finite negative a m.largest le)
+  inside_overflow y0 negative a le = search rules
 
   inside_infinity : (way : Saturation) (negative : Bool) (a : ℕ) → a ≤ m.largest → Inside negative (finite (signed negative a)) (of_infinity m way negative)
-  inside_infinity SatFinite negative a le = inside_finite negative a m.largest le
-  inside_infinity SatPropagate negative a le = inside_infinite negative a
-  inside_infinity OvfInf negative a le = inside_infinite negative a
+  inside_infinity y0 negative a le = search rules
 
   overflow_inside : (way : Saturation) (negative : Bool) → Inside negative (of_overflow m rule way negative) (of_infinity m way negative)
-  overflow_inside SatFinite negative = inside_same negative (end m negative)
-  overflow_inside SatPropagate negative = inside_infinite negative m.largest
-  overflow_inside OvfInf negative =
-      cond_both (rule.overflows negative) (infinite negative) (end m negative) (λ v. Inside negative v (infinite negative))
-      (λ e. inside_same negative (infinite negative)) (λ e. inside_infinite negative m.largest)
+  overflow_inside y0 negative = search rules
 
   size_inside : (negative : Bool) (n : ℕ) → Inside negative (of_size m rule mode negative n) (of_infinity m mode negative)
   size_inside negative n =
@@ -220,16 +174,10 @@ module _ (m : Meaning) (laws : Lawful m) (rule : Rule) (mode : Saturation) where
       (size_ways m rule mode negative n)
 
   overflow_sided : (way : Saturation) (negative : Bool) → Sided negative (of_overflow m rule way negative)
-  overflow_sided SatFinite negative = sided_finite negative m.largest
-  overflow_sided SatPropagate negative = sided_finite negative m.largest
-  overflow_sided OvfInf negative =
-      cond_both (rule.overflows negative) (infinite negative) (end m negative) (Sided negative)
-      (λ e. sided_infinite negative) (λ e. sided_finite negative m.largest)
+  overflow_sided y0 negative = search rules
 
   infinity_sided : (way : Saturation) (negative : Bool) → Sided negative (of_infinity m way negative)
-  infinity_sided SatFinite negative = sided_finite negative m.largest
-  infinity_sided SatPropagate negative = sided_infinite negative
-  infinity_sided OvfInf negative = sided_infinite negative
+  infinity_sided y0 negative = search rules
 
   size_sided : (negative : Bool) (n : ℕ) → Sided negative (of_size m rule mode negative n)
   size_sided negative n =

@@ -1,6 +1,6 @@
 use Rattle.std.proofs.Common.{◌≡◌, ◌-◌, ◌*◌, ◌%◌, ◌^◌, ap, ◌∙◌, arith}
 use Rattle.std.proofs.lemmas.Nat.{shl_whole}
-use Rattle.std.proofs.lemmas.Bool.{leb-true, leb-false, ltb-true}
+use Rattle.std.proofs.lemmas.Bool.{leb-true, leb-false}
 use Rattle.rounding.proofs.StepLaws.{within_units, beyond_units, beyond_place}
 use Rattle.rounding.proofs.project.Target.within.Goals as goal
 
@@ -18,11 +18,7 @@ returns-then-place-lt128 g c =
       beyond = λ t some. beyond_units s place m.largest c.requires.0 (omega (arith, leb-false _ most t));
     }
 
-pub returns-else-place-lt128 : goal.returns-else-place-lt128
-returns-else-place-lt128 g c =
-    let m = g.F.Format.meaning c.args.self.now.format.now in
-    let laws = g.met.F.Format.lawful c.args.self.now.format.now in
-    record {
-      within = λ t. absurd (omega (arith, ltb-true c.args.place 128 t));
-      beyond = λ t some. beyond_place c.args.significand c.args.place m.largest c.if-place-lt128.false (some c.if-place-lt128.false) laws.below;
-    }
+pub returns-else-place-lt128-clause-beyond : goal.returns-else-place-lt128-clause-beyond
+returns-else-place-lt128-clause-beyond g c t some =
+    let far = c.if-place-lt128.false in
+    beyond_place c.args.significand c.args.place _ far (some far) (g.met.F.Format.lawful c.args.self.now.format.now).below
