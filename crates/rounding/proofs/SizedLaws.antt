@@ -1,9 +1,7 @@
 -- The rounded size: it is one of the two neighbours, it keeps order, and where the rule is nearest none is nearer.
-use Rattle.std.proofs.Common.{◌≡◌, ℕ, zero, suc, ◌+◌, ◌-◌, ◌*◌, ◌^◌, ◌<◌, ◌≤◌, Bool, true, false, cond, not, ◌&&◌, eqb, ◌⊎◌, refl, subst, inl, inr, ⊎_elim, suc-mul, add-one, arith, rules, pow_pos}
+use Rattle.std.proofs.Common.{◌≡◌, ℕ, ◌+◌, ◌-◌, ◌*◌, ◌^◌, ◌<◌, ◌≤◌, Bool, true, false, cond, not, ◌&&◌, eqb, ◌⊎◌, refl, inl, inr, ⊎_elim, arith, rules, pow_pos}
 use native.Mathlib.Nat.{max-le, le-max_left, le-max_right}
-use lib.Dec.{eqb-suc-zero}
-use Rattle.std.proofs.lemmas.Bool.{cases_lt, cases_order, both_ways, lt-ltb, le-ltb, eq-eqb, ne_eqb}
-use Rattle.std.proofs.lemmas.Int.{ints}
+use Rattle.std.proofs.lemmas.Bool.{both_ways}
 use Rattle.layout.specs.Digits.{digits}
 use Rattle.layout.specs.Sizes.{bottom, Shaped}
 use Rattle.layout.proofs.DigitLaws.{digits_mono}

@@ -1,5 +1,5 @@
 -- Laws of the projection's steps.
-use Rattle.std.proofs.Common.{◌≡◌, ℕ, suc, ◌+◌, ◌-◌, ◌*◌, ◌/◌, ◌%◌, ◌^◌, ◌<◌, ◌≤◌, max, Bool, true, false, cond, not, ◌&&◌, ◌||◌, eqb, List, pos, ◌*ℤ◌, nat_abs, sym, refl, ap, ◌∙◌, subst, ap₂, ⊎_elim, mod-lt, mul_assoc, suc-mul, add-one, arith, rules, pow_pos, pow_mono, pow-add, shr_lt}
+use Rattle.std.proofs.Common.{◌≡◌, ℕ, suc, ◌+◌, ◌-◌, ◌*◌, ◌/◌, ◌%◌, ◌^◌, ◌<◌, ◌≤◌, max, Bool, true, false, cond, not, ◌&&◌, ◌||◌, eqb, pos, ◌*ℤ◌, nat_abs, sym, refl, ap, ◌∙◌, subst, ap₂, ⊎_elim, mod-lt, mul_assoc, suc-mul, add-one, arith, pow_pos, pow_mono, pow-add, shr_lt}
 use native.Mathlib.Nat.{max_comm}
 use lib.Count.{count_leading_zeros}
 use lib.Pow.{split, shl-shr}
@@ -14,7 +14,7 @@ use Rattle.layout.proofs.DigitLaws.{digits_below, pow_order}
 use Rattle.layout.proofs.SizeLaws.{size_aligned}
 use Rattle.formats.specs.Meaning.{Meaning, Lawful, Coded}
 use Rattle.formats.specs.Readings.{fine}
-use Rattle.formats.specs.Value.{Value, nan, infinite, finite, signed, finer}
+use Rattle.formats.specs.Value.{Value, finite, signed, finer}
 use Rattle.formats.specs.ValueLaws.{signed-*, signed_abs}
 use Rattle.sums.specs.Cuts.{CutAt}
 use Rattle.sums.specs.Sums.{value_of, value, size}
