@@ -1,12 +1,13 @@
 -- Laws of numbers in words, cut at a bit.
-use Rattle.std.proofs.Common.{◌≡◌, ℕ, zero, suc, ◌+◌, ◌-◌, ◌*◌, ◌/◌, ◌%◌, ◌^◌, ◌<◌, ◌≤◌, List, [], ◌∷◌, get_or, take, drop, sym, refl, ap, ◌∙◌, mul_assoc, mul_comm, add-mul, zero-mul, arith, pow_mono}
+use Rattle.std.proofs.Common.{◌≡◌, ℕ, zero, suc, ◌+◌, ◌-◌, ◌*◌, ◌/◌, ◌%◌, ◌^◌, ◌<◌, ◌≤◌, not, eqb, List, [], ◌∷◌, get_or, take, drop, sym, refl, ap, ◌∙◌, mul_assoc, mul_comm, add-mul, zero-mul, arith, pow_mono}
 use lib.Count.{count_leading_zeros}
 use Rattle.layout.specs.Digits.{digits}
 use Rattle.layout.proofs.DigitLaws.{digits_unique}
-use Rattle.std.specs.List.{AllByRecursion}
+use Rattle.std.specs.List.{AllByRecursion, list_any}
+use Rattle.std.proofs.lemmas.Bool.Decides.{nat_tests}
 use Rattle.std.proofs.lemmas.Nat.{pow-add, pow_pos, shr-shr, shr_split, shr_high, shr_below, mod_low, mod-pow-add, field_of, leading_top, mul-le, mod_below, one_shl}
 use Rattle.sums.specs.Words.{number, Eight}
-use Rattle.sums.proofs.WordLaws.{scaled, word_below, take_below, number_split}
+use Rattle.sums.proofs.WordLaws.{scaled, word_below, take_below, take_word, number_split}
 
 -- the words from one up are the number shifted down, and the words below it what is left
 number_shr : (ws : List ℕ) (i : ℕ) → AllByRecursion (λ w. w < 2 ^ 32) ws → number ws / 2 ^ (32 * i) ≡ number (drop i ws)
@@ -22,55 +23,29 @@ drop_word [] (suc i) = refl
 drop_word (w ∷ ws) zero = refl
 drop_word (w ∷ ws) (suc i) = drop_word ws i
 
-take_word : (ws : List ℕ) (i : ℕ) → number (take (suc i) ws) ≡ get_or ws i 0 * 2 ^ (32 * i) + number (take i ws)
-take_word [] zero = refl
-take_word [] (suc i) = omega (arith, zero-mul (2 ^ (32 * suc i)))
-take_word (w ∷ ws) zero = omega arith
-take_word (w ∷ ws) (suc i) = omega (arith, take_word ws i, scaled (get_or ws i 0) i)
-
 -- words that are all zero
-pub none_more : (ws : List ℕ) (i : ℕ) → number (take i ws) ≡ 0 → get_or ws i 0 ≡ 0 → number (take (i + 1) ws) ≡ 0
-none_more ws i e z = let x : i + 1 ≡ suc i = omega arith in rw x (omega (arith, take_word ws i, ap (λ w. w * 2 ^ (32 * i)) z, zero-mul (2 ^ (32 * i))))
+pub any_number : (ws : List ℕ) → list_any (λ w. not (eqb w 0)) ws ≡ not (eqb (number ws) 0)
+any_number [] = refl
+any_number (w ∷ ws) = let rest = any_number ws in grind (arith, nat_tests)
 
-pub word_within : (ws : List ℕ) (i j : ℕ) → i < j → get_or ws i 0 ≤ number (take j ws)
-word_within ws i zero lt = absurd (omega arith)
-word_within [] i (suc j) lt = omega arith
-word_within (w ∷ ws) zero (suc j) lt = omega arith
-word_within (w ∷ ws) (suc i) (suc j) lt = omega (arith, word_within ws i j (omega arith))
-
--- a number of i + 1 words
-whole_top : (ws : List ℕ) (i : ℕ) → AllByRecursion (λ w. w < 2 ^ 32) ws → number ws < 2 ^ (32 * suc i) → number ws ≡ get_or ws i 0 * 2 ^ (32 * i) + number (take i ws)
-whole_top ws i h lt =
-    let x : 0 + 32 * suc i ≡ 32 * suc i = omega arith in
-    let none : number (drop (suc i) ws) ≡ 0 = omega (arith, shr_below (number ws) 0 (32 * suc i) (rw x lt), number_shr ws (suc i) h) in
-    omega (arith, number_split ws (suc i), ap (λ y. y * 2 ^ (32 * suc i)) none, zero-mul (2 ^ (32 * suc i)), take_word ws i)
-
-pub fewer_words : (ws : List ℕ) (i : ℕ) → Eight ws → 0 < i → number ws < 2 ^ (32 * i) → get_or ws (i - 1) 0 ≡ 0 → number ws < 2 ^ (32 * (i - 1))
-fewer_words ws zero h some lt z = absurd (omega arith)
-fewer_words ws (suc i) h some lt z =
-    let x : suc i - 1 ≡ i = omega arith in
-    let none : get_or ws i 0 ≡ 0 = rw x at z in
-    rw x (omega (arith, whole_top ws i h.words32 lt, ap (λ y. y * 2 ^ (32 * i)) none, zero-mul (2 ^ (32 * i)), take_below ws i h.words32))
+-- a zero word adds no digit
+pub no_digits : (ws : List ℕ) (i : ℕ) → get_or ws i 0 ≡ 0 → number (take (i + 1) ws) ≡ number (take i ws)
+no_digits ws i z = let x : i + 1 ≡ suc i = omega arith in rw x (omega (arith, take_word ws i, ap (λ w. w * 2 ^ (32 * i)) z, zero-mul (2 ^ (32 * i))))
 
 -- the digits of a number with its highest word at i
-digits_at : (ws : List ℕ) (i : ℕ) → Eight ws → i < 8 → number ws < 2 ^ (32 * suc i) → 0 < get_or ws i 0 → count_leading_zeros 32 (get_or ws i 0) + digits (number ws) ≡ 32 * i + 32
-digits_at ws i h in' lt some =
+pub top_digits : (ws : List ℕ) (i : ℕ) → Eight ws → i < 8 → (get_or ws i 0 ≡ 0 → ⊥) → 32 * i + 32 - count_leading_zeros 32 (get_or ws i 0) ≡ digits (number (take (i + 1) ws))
+top_digits ws i h in' some =
+    let y : i + 1 ≡ suc i = omega arith in
     let w = get_or ws i 0 in
     let W = 2 ^ (32 * i) in
-    let (b, z, lo, hi) = leading_top 32 w some (word_below ws i h in') in
-    let n = whole_top ws i h.words32 lt in
+    let n = number (take (suc i) ws) in
+    let (b, z, lo, hi) = leading_top 32 w (omega (arith, some)) (word_below ws i h in') in
+    let whole = take_word ws i in
     let rest = take_below ws i h.words32 in
-    let from : 2 ^ (b + 32 * i) ≤ number ws = omega (arith, pow-add 2 b (32 * i), mul-le (2 ^ b) W w W lo (omega arith)) in
-    let to : number ws < 2 ^ (suc b + 32 * i) = omega (arith, pow-add 2 (suc b) (32 * i), mul-le (w + 1) W (2 ^ suc b) W (omega arith) (omega arith), add-mul w 1 W) in
+    let from : 2 ^ (b + 32 * i) ≤ n = omega (arith, pow-add 2 b (32 * i), mul-le (2 ^ b) W w W lo (omega arith)) in
+    let to : n < 2 ^ (suc b + 32 * i) = omega (arith, pow-add 2 (suc b) (32 * i), mul-le (w + 1) W (2 ^ suc b) W (omega arith) (omega arith), add-mul w 1 W) in
     let x : suc b + 32 * i ≡ suc (b + 32 * i) = omega arith in
-    omega (arith, digits_unique (number ws) (b + 32 * i) from (rw x at to))
-
-pub top_digits : (ws : List ℕ) (i : ℕ) → Eight ws → 0 < i → i ≤ 8 → number ws < 2 ^ (32 * i) → (get_or ws (i - 1) 0 ≡ 0 → ⊥) → 32 * (i - 1) + 32 - count_leading_zeros 32 (get_or ws (i - 1) 0) ≡ digits (number ws)
-top_digits ws zero h some le lt ne = absurd (omega arith)
-top_digits ws (suc i) h some le lt ne =
-    let x : suc i - 1 ≡ i = omega arith in
-    let other : get_or ws i 0 ≡ 0 → ⊥ = rw x at ne in
-    rw x (omega (arith, digits_at ws i h (omega arith) lt (omega (arith, other))))
+    rw y (omega (arith, digits_unique n (b + 32 * i) from (rw x at to)))
 
 -- the number from a bit up, in the word that has the bit
 from_bit : (ws : List ℕ) (place : ℕ) → Eight ws → number ws / 2 ^ place ≡ number (drop (place / 32) ws) / 2 ^ (place % 32)

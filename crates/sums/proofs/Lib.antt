@@ -1,4 +1,5 @@
 pub mod WordLaws
 pub mod SignedLaws
-pub mod SizeBound
 pub mod CutLaws
+pub mod SumLaws
+pub mod SizeBound

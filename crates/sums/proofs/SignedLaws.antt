@@ -1,42 +1,41 @@
 -- Laws of words as two's complement.
-use Rattle.std.proofs.Common.{◌≡◌, ℕ, ◌+◌, ◌-◌, ◌*◌, ◌/◌, ◌%◌, ◌^◌, ◌<◌, ◌≤◌, true, false, not, ltb, leb, ◌⊎◌, List, [], ◌∷◌, length, get_or, take, ℤ, pos, ◌+ℤ◌, neg_ℤ, nat_abs, sym, refl, ap, ◌∙◌, mul_assoc, arith}
+use Rattle.std.proofs.Common.{◌≡◌, ℕ, ◌+◌, ◌-◌, ◌*◌, ◌/◌, ◌%◌, ◌^◌, ◌<◌, ◌≤◌, Bool, true, false, not, ltb, leb, ◌⊎◌, List, [], ◌∷◌, length, get_or, take, ℤ, pos, ◌+ℤ◌, neg_ℤ, nat_abs, sym, refl, ap, ◌∙◌, mul_assoc, arith}
 use lib.Signed.{non_neg}
 use Rattle.std.specs.List.{AllByRecursion}
 use Rattle.std.proofs.lemmas.Nat.{pow-add, shl_whole}
 use Rattle.std.proofs.lemmas.Int.{ints}
 use Rattle.std.proofs.lemmas.Bool.Decides.{nat_tests}
-use Rattle.sums.specs.Words.{number, Eight, Added, Taken, twos_complement}
+use Rattle.formats.specs.Value.{signed}
+use Rattle.sums.specs.Words.{number, Eight, Moved, twos_complement}
 use Rattle.sums.proofs.WordLaws.{number-drop, number_past, number_below, take_below, number_split}
 
 -- the number that n stands for, read either way
 abbrev Read : ℕ → ℤ → Type 0
 Read n z = ((n < 2 ^ 255) × (z ≡ pos n)) ⊎ ((2 ^ 255 ≤ n) × (n < 2 ^ 256) × (z ≡ neg_ℤ (pos (2 ^ 256 - n))))
 
-read : (ws : List ℕ) → Eight ws → Read (number ws) (twos_complement ws)
-read ws h = let lt = number_below ws h in grind (arith, nat_tests)
+read : (ws : List ℕ) → number ws < 2 ^ 256 → Read (number ws) (twos_complement ws)
+read ws lt = grind (arith, nat_tests)
 
-pub added_signed : (ws vs : List ℕ) (n : ℕ) → Eight ws → Eight vs → nat_abs (twos_complement ws) + n < 2 ^ 255 → Added ws n vs → twos_complement vs ≡ twos_complement ws +ℤ pos n
-added_signed ws vs n g h fits s = let a = read ws g in let b = read vs h in grind (arith, ints)
+pub moved_signed : (down : Bool) (ws vs : List ℕ) (n : ℕ) → Eight ws → nat_abs (twos_complement ws) + n < 2 ^ 255 → Moved down ws n vs → twos_complement vs ≡ twos_complement ws +ℤ signed down n
+moved_signed false ws vs n g fits (h, (r, most, e)) = let a = read ws (number_below ws g) in let b = read vs (number_below vs h) in grind (arith, ints)
+moved_signed true ws vs n g fits (h, (r, most, e)) = let a = read ws (number_below ws g) in let b = read vs (number_below vs h) in grind (arith, ints)
 
-pub taken_signed : (ws vs : List ℕ) (n : ℕ) → Eight ws → Eight vs → nat_abs (twos_complement ws) + n < 2 ^ 255 → Taken ws n vs → twos_complement vs ≡ twos_complement ws +ℤ neg_ℤ (pos n)
-taken_signed ws vs n g h fits s = let a = read ws g in let b = read vs h in grind (arith, ints)
-
-pub summed_signed : (ws os vs : List ℕ) → Eight ws → Eight os → Eight vs → nat_abs (twos_complement ws) + nat_abs (twos_complement os) < 2 ^ 255 → Added ws (number os) vs → twos_complement vs ≡ twos_complement ws +ℤ twos_complement os
-summed_signed ws os vs f g h fits s = let a = read ws f in let b = read os g in let c = read vs h in grind (arith, ints)
+pub summed_signed : (ws os vs : List ℕ) → Eight ws → Eight os → nat_abs (twos_complement ws) + nat_abs (twos_complement os) < 2 ^ 255 → Moved false ws (number os) vs → twos_complement vs ≡ twos_complement ws +ℤ twos_complement os
+summed_signed ws os vs f g fits (h, (r, most, e)) = let a = read ws (number_below ws f) in let b = read os (number_below os g) in let c = read vs (number_below vs h) in grind (arith, ints)
 
 pub negated_signed : (ws vs : List ℕ) → Eight ws → Eight vs → nat_abs (twos_complement ws) < 2 ^ 255 → (number vs + number ws) % 2 ^ 256 ≡ 0 → twos_complement vs ≡ neg_ℤ (twos_complement ws)
-negated_signed ws vs g h fits e = let a = read ws g in let b = read vs h in grind (arith, ints)
+negated_signed ws vs g h fits e = let a = read ws (number_below ws g) in let b = read vs (number_below vs h) in grind (arith, ints)
 
 -- the sign
 sign_signed : (ws : List ℕ) → Eight ws → non_neg (twos_complement ws) ≡ ltb (number ws) (2 ^ 255)
-sign_signed ws h = let a = read ws h in grind (arith, ints, nat_tests)
+sign_signed ws h = let a = read ws (number_below ws h) in grind (arith, ints, nat_tests)
 
 -- the words of the size
 pub size_positive : (ws : List ℕ) → Eight ws → non_neg (twos_complement ws) ≡ true → number ws ≡ nat_abs (twos_complement ws)
-size_positive ws h s = let a = read ws h in let b = sign_signed ws h in grind (arith, ints, nat_tests)
+size_positive ws h s = let a = read ws (number_below ws h) in let b = sign_signed ws h in grind (arith, ints, nat_tests)
 
 pub size_negative : (ws vs : List ℕ) → Eight ws → Eight vs → non_neg (twos_complement ws) ≡ false → (number vs + number ws) % 2 ^ 256 ≡ 0 → number vs ≡ nat_abs (twos_complement ws)
-size_negative ws vs g h s e = let a = read ws g in let b = sign_signed ws g in let c = number_below vs h in grind (arith, ints, nat_tests)
+size_negative ws vs g h s e = let a = read ws (number_below ws g) in let b = sign_signed ws g in let c = number_below vs h in grind (arith, ints, nat_tests)
 
 -- the highest word has the sign
 pub top_word : (ws : List ℕ) → Eight ws → leb (2 ^ 31) (get_or ws 7 0) ≡ not (non_neg (twos_complement ws))
@@ -62,8 +61,8 @@ words_of (v ∷ vs) (w ∷ ws) l (p, ps) (q, qs) e =
 -- each number is in eight words in one way
 pub words_signed : (vs ws : List ℕ) → Eight vs → Eight ws → twos_complement vs ≡ twos_complement ws → vs ≡ ws
 words_signed vs ws g h e =
-    let a = read vs g in
-    let b = read ws h in
+    let a = read vs (number_below vs g) in
+    let b = read ws (number_below ws h) in
     words_of vs ws (g.long ∙ sym h.long) g.words32 h.words32 (grind (arith, ints))
 
 -- the two words of a term, from the word that its place has

@@ -1,37 +1,32 @@
 -- The value that a sum stands for, in units of 2^-96. The order of the words (the lowest first) and the place of the sign
 -- (two's complement) are this program's own choice; what counts is the value.
-use Rattle.std.specs.Prelude.{◌≡◌, ℕ, Bool, true, false, not, List, replicate, unsigned_abs}
+use Rattle.std.specs.Prelude.{◌≡◌, ℕ, Bool, true, false, not, unsigned_abs}
 use Rattle.std.specs.Int.Signed.{non_neg}
 use Rattle.formats.specs.Value.{Value, nan, infinite, finite}
-use Rattle.sums.specs.Words.{Eight, twos_complement}
-use Rattle.sums.specs.declared.sum.Standing.{Standing}
-use Rattle.sums.specs.declared.sum.Standing.TheVariants.{NotANumber, PositiveInfinity, NegativeInfinity, Finite}
+use Rattle.sums.specs.Words.{twos_complement}
 use Rattle.sums.specs.declared.sum.Sum.{Sum}
-
-abbrev pub value_of : Standing → List ℕ → Value
-value_of NotANumber ws = nan
-value_of PositiveInfinity ws = infinite false
-value_of NegativeInfinity ws = infinite true
-value_of Finite ws = finite (twos_complement ws)
+use Rattle.sums.specs.declared.sum.Sum.TheVariants.{NotANumber, PositiveInfinity, NegativeInfinity, Finite}
 
 abbrev pub value : Sum → Value
-value s = value_of s.standing s.words
+value NotANumber = nan
+value PositiveInfinity = infinite false
+value NegativeInfinity = infinite true
+value (Finite w) = finite (twos_complement w.words)
 
--- zero words unless the sum is finite
-abbrev pub Cleared : Standing → List ℕ → Type 0
-Cleared NotANumber ws = ws ≡ replicate 8 0
-Cleared PositiveInfinity ws = ws ≡ replicate 8 0
-Cleared NegativeInfinity ws = ws ≡ replicate 8 0
-Cleared Finite ws = Unit {0}
+-- the size of a finite value; 0 where it is not finite
+abbrev pub size_of : Value → ℕ
+size_of nan = 0
+size_of (infinite negative) = 0
+size_of (finite z) = unsigned_abs z
 
-pub record Sound (s : Sum) : Type 0 where
-  pub eight : Eight s.words
-  pub cleared : Cleared s.standing s.words
+-- whether a value is finite and below zero
+abbrev pub below_zero : Value → Bool
+below_zero nan = false
+below_zero (infinite negative) = false
+below_zero (finite z) = not (non_neg z)
 
--- the size of the finite sum that the words hold; 0 where it is not finite
 abbrev pub size : Sum → ℕ
-size s = unsigned_abs (twos_complement s.words)
+size s = size_of (value s)
 
--- whether the finite sum is below zero
 abbrev pub is_below_zero : Sum → Bool
-is_below_zero s = not (non_neg (twos_complement s.words))
+is_below_zero s = below_zero (value s)

@@ -2,6 +2,6 @@
 #![tactic(auto)]
 
 pub mod magnitude;
-mod signed;
+pub mod signed;
 pub mod sum;
 mod words;

@@ -1,5 +1,7 @@
 // The size of a finite sum, as the rounding needs it.
-ghost use Rattle.std.specs.Prelude.{◌≡◌, ◌+◌, ◌/◌, ◌%◌, ◌^◌, ◌<◌, ◌≤◌, not, take, ◌==◌, slice_index};
+ghost use Rattle.std.specs.Prelude.{◌≡◌, ◌+◌, ◌/◌, ◌%◌, ◌^◌, ◌<◌, ◌≤◌, not, ◌==◌, slice_index};
+ghost use Rattle.std.specs.List.{list_any};
+ghost use Rattle.std.proofs.Props.{props};
 ghost use Rattle.layout.specs.Digits.{digits};
 ghost use Rattle.sums.specs.Cuts.{CutAt};
 ghost use Rattle.sums.specs.Words.{number, Eight};
@@ -8,6 +10,7 @@ ghost use Rattle.sums.specs.Words.{number, Eight};
 #[derive(Clone, Copy)]
 pub struct Magnitude {
     pub words: [u32; 8],
+    ghost eight: { Eight words } by { Prim.hlevel props },
 }
 
 // A number cut at a bit: the digits from there up, the bit below, and whether any bit is set below
@@ -22,20 +25,19 @@ pub struct Cut {
 impl Magnitude {
     // How many binary digits the number has.
     pub fn bit_length(&self) -> u32
-        requires { Eight self.now.words }
         ensures { (result ≡ digits (number self.now.words)) × (result ≤ 256) }
     {
-        for i in (0..8).rev() {
-            if self.words[i] != 0 {
-                return 32 * i as u32 + 32 - self.words[i].leading_zeros();
+        let mut bits = 0;
+        for (i, word) in self.words.iter().enumerate() {
+            if *word != 0 {
+                bits = 32 * i as u32 + 32 - word.leading_zeros();
             }
         }
-        0
+        bits
     }
 
     // The number cut at a bit with at most twelve digits above it.
     pub fn cut(&self, place: u32) -> Cut
-        requires eight { Eight self.now.words }
         requires place { (0 < place) × (place < 256) }
         requires fits { number self.now.words < 2 ^ (12 + place) }
         ensures { CutAt (number self.now.words) place result }
@@ -48,7 +50,6 @@ impl Magnitude {
     }
 
     fn digits_from(&self, place: u32) -> u32
-        requires eight { Eight self.now.words }
         requires place { place < 256 }
         requires fits { number self.now.words < 2 ^ (12 + place) }
         ensures { result ≡ number self.now.words / 2 ^ place }
@@ -61,7 +62,7 @@ impl Magnitude {
 
     // Whether a bit is set.
     fn bit(&self, place: u32) -> bool
-        requires { (Eight self.now.words) × (place < 256) }
+        requires { place < 256 }
         ensures { result ≡ (number self.now.words / 2 ^ place % 2 == 1) }
     {
         (self.words[(place / 32) as usize] >> (place % 32)) % 2 == 1
@@ -69,31 +70,24 @@ impl Magnitude {
 
     // Whether any bit below one is set.
     fn any_below(&self, place: u32) -> bool
-        requires { (Eight self.now.words) × (place < 256) }
+        requires { place < 256 }
         ensures { result ≡ not (number self.now.words % 2 ^ place == 0) }
     {
         let at = (place / 32) as usize;
-        self.words[at] % (1 << (place % 32)) != 0 || self.any_word_below(at)
-    }
-
-    // Whether any word below one is not zero.
-    fn any_word_below(&self, at: usize) -> bool
-        requires { (Eight self.now.words) × (at ≤ 8) }
-        ensures { result ≡ not (number (take at self.now.words) == 0) }
-    {
-        for i in 0..at {
-            if self.words[i] != 0 {
-                return true;
-            }
-        }
-        false
+        self.words[at] % (1 << (place % 32)) != 0 || any_set(&self.words[..at])
     }
 
     // The word at an index, and zero past the last one.
     fn word(&self, at: usize) -> u64
-        requires { Eight self.now.words }
         ensures { (result ≡ slice_index self.now.words at) × (result < 2 ^ 32) }
     {
-        if at < 8 { u64::from(self.words[at]) } else { 0 }
+        self.words.get(at).map_or(0, |word| u64::from(*word))
     }
+}
+
+// Whether any of the words is not zero.
+fn any_set(words: &[u32]) -> bool
+    ensures { result ≡ list_any (λ w. not (w == 0)) words.now }
+{
+    words.iter().any(|word| *word != 0)
 }

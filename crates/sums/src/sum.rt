@@ -2,130 +2,109 @@
 ghost use Rattle.std.specs.Prelude.{◌≡◌, ◌+◌, ◌*◌, ◌^◌, ◌<◌, ◌≤◌, true, pos, Decides};
 ghost use Rattle.formats.specs.Value.{nan, infinite, finite, signed, negated};
 ghost use Rattle.sums.specs.Exact.{plus};
-ghost use Rattle.sums.specs.Sums.{value, Sound, size, is_below_zero};
-ghost use Rattle.sums.specs.Words.{number, Eight};
+ghost use Rattle.sums.specs.Sums.{value, size, is_below_zero};
+ghost use Rattle.sums.specs.Words.{number};
 
 use crate::magnitude::Magnitude;
-use crate::signed::{add_all, add_digits, is_negative, negative_of, same, size_of};
+use crate::signed::Signed;
 
 #[derive(Clone, Copy, PartialEq, Eq)]
-pub enum Standing {
+pub enum Sum {
     NotANumber,
     PositiveInfinity,
     NegativeInfinity,
-    Finite,
-}
-
-// The words are two's complement, the lowest first, and zero unless the sum is finite.
-#[derive(Clone, Copy)]
-pub struct Sum {
-    pub standing: Standing,
-    pub words: [u32; 8],
+    Finite(Signed),
 }
 
 impl Sum {
     pub fn zero() -> Sum
-        ensures value { value result ≡ finite (pos 0) }
-        ensures sound { Sound result }
+        ensures { value result ≡ finite (pos 0) }
     {
-        Sum {
-            standing: Standing::Finite,
-            words: [0; 8],
-        }
+        Sum::Finite(Signed::zero())
     }
 
     pub fn add_nan(&mut self)
-        ensures value { value self.new ≡ nan }
-        ensures sound { Sound self.new }
+        ensures { value self.new ≡ nan }
     {
-        self.standing = Standing::NotANumber;
-        self.words = [0; 8];
+        *self = Sum::NotANumber;
     }
 
     pub fn add_infinity(&mut self, negative: bool)
-        ensures value { value self.new ≡ plus (value self.old) (infinite negative) }
-        ensures sound { Sound self.new }
+        ensures { value self.new ≡ plus (value self.old) (infinite negative) }
     {
-        self.standing = match self.standing {
-            Standing::NotANumber => Standing::NotANumber,
-            Standing::PositiveInfinity if negative => Standing::NotANumber,
-            Standing::NegativeInfinity if !negative => Standing::NotANumber,
-            _ if negative => Standing::NegativeInfinity,
-            _ => Standing::PositiveInfinity,
+        *self = match self {
+            Sum::NotANumber => Sum::NotANumber,
+            Sum::PositiveInfinity if negative => Sum::NotANumber,
+            Sum::NegativeInfinity if !negative => Sum::NotANumber,
+            _ if negative => Sum::NegativeInfinity,
+            _ => Sum::PositiveInfinity,
         };
-        self.words = [0u32; 8];
     }
 
     // Adds ±digits × 2^place units.
     pub fn add_term(&mut self, negative: bool, digits: u32, place: u8)
-        requires sound { Sound self.old }
         requires short { (digits < 2 ^ 24) × (place ≤ 189) }
         requires fits { size self.old + digits * 2 ^ place < 2 ^ 255 }
-        ensures value { value self.new ≡ plus (value self.old) (finite (signed negative (digits * 2 ^ place))) }
-        ensures sound { Sound self.new }
+        ensures { value self.new ≡ plus (value self.old) (finite (signed negative (digits * 2 ^ place))) }
     {
-        if self.standing == Standing::Finite {
-            add_digits(&mut self.words, negative, digits, place);
+        if let Sum::Finite(sum) = self {
+            sum.add_digits(negative, digits, place);
         }
     }
 
     pub fn add_sum(&mut self, other: &Sum)
-        requires sound { (Sound self.old) × (Sound other.now) }
-        requires fits { size self.old + size other.now < 2 ^ 255 }
-        ensures value { value self.new ≡ plus (value self.old) (value other.now) }
-        ensures sound { Sound self.new }
+        requires { size self.old + size other.now < 2 ^ 255 }
+        ensures { value self.new ≡ plus (value self.old) (value other.now) }
     {
-        match other.standing {
-            Standing::NotANumber => self.add_nan(),
-            Standing::PositiveInfinity => self.add_infinity(false),
-            Standing::NegativeInfinity => self.add_infinity(true),
-            Standing::Finite => {
-                if self.standing == Standing::Finite {
-                    add_all(&mut self.words, &other.words);
+        match other {
+            Sum::NotANumber => self.add_nan(),
+            Sum::PositiveInfinity => self.add_infinity(false),
+            Sum::NegativeInfinity => self.add_infinity(true),
+            Sum::Finite(other) => {
+                if let Sum::Finite(sum) = self {
+                    sum.add(other);
                 }
             }
         }
     }
 
     pub fn negate(&mut self)
-        requires sound { Sound self.old }
-        requires fits { size self.old < 2 ^ 255 }
-        ensures value { value self.new ≡ negated (value self.old) }
-        ensures sound { Sound self.new }
+        requires { size self.old < 2 ^ 255 }
+        ensures { value self.new ≡ negated (value self.old) }
     {
-        match self.standing {
-            Standing::NotANumber => {}
-            Standing::PositiveInfinity => self.standing = Standing::NegativeInfinity,
-            Standing::NegativeInfinity => self.standing = Standing::PositiveInfinity,
-            Standing::Finite => self.words = negative_of(&self.words),
+        *self = match self {
+            Sum::NotANumber => Sum::NotANumber,
+            Sum::PositiveInfinity => Sum::NegativeInfinity,
+            Sum::NegativeInfinity => Sum::PositiveInfinity,
+            Sum::Finite(sum) => Sum::Finite(sum.negative()),
+        };
+    }
+
+    // Whether the sum is finite and below zero.
+    pub fn is_negative(&self) -> bool
+        ensures { result ≡ is_below_zero self.now }
+    {
+        match self {
+            Sum::Finite(sum) => sum.is_negative(),
+            _ => false,
         }
     }
 
-    // Whether the finite sum is below zero.
-    pub fn is_negative(&self) -> bool
-        requires { Sound self.now }
-        ensures { result ≡ is_below_zero self.now }
-    {
-        is_negative(&self.words)
-    }
-
-    // The size of the finite sum.
+    // The size of a finite sum; zero where it is not finite.
     pub fn magnitude(&self) -> Magnitude
-        requires { Sound self.now }
-        ensures eight { Eight result.words }
-        ensures size { number result.words ≡ size self.now }
+        ensures { number result.words ≡ size self.now }
     {
-        Magnitude {
-            words: size_of(&self.words),
+        match self {
+            Sum::Finite(sum) => sum.size(),
+            _ => Magnitude { words: [0; 8] },
         }
     }
 
     // Whether two sums have one value: then they are equal in every field.
     pub fn equals(&self, other: &Sum) -> bool
-        requires { (Sound self.now) × (Sound other.now) }
         ensures value { Decides result (value self.now ≡ value other.now) }
-        ensures fields { result ≡ true → self.now ≡ other.now }
+        ensures fields { Decides result (self.now ≡ other.now) }
     {
-        self.standing == other.standing && same(&self.words, &other.words)
+        self == other
     }
 }

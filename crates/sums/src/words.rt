@@ -1,91 +1,56 @@
-// Numbers in eight 32-bit words, the lowest first, modulo 2^256.
-ghost use Rattle.std.specs.Prelude.{◌≡◌, ◌+◌, ◌-◌, ◌*◌, ◌/◌, ◌%◌, ◌^◌, ◌<◌, ◌≤◌};
-ghost use Rattle.sums.specs.Words.{number, Eight, Added, Taken};
+// Numbers in eight 32-bit words, the lowest first, modulo 2^256, and one way to add to them and to take from them.
+ghost use Rattle.std.specs.Prelude.{◌≡◌, ◌+◌, ◌*◌, ◌^◌, ◌<◌, ◌≤◌};
+ghost use Rattle.sums.specs.Words.{number, Moved, PassesOn, Balanced};
 
-// Adds (low + 2^32 × high) × 2^(32 × at).
-pub(crate) fn add_at(words: &mut [u32; 8], at: usize, low: u32, high: u32)
-    requires { (Eight words.old) × (at < 7) }
-    ensures eight { Eight words.new }
-    ensures added { Added words.old ((low + 2 ^ 32 * high) * 2 ^ (32 * at)) words.new }
+// Adds (low + 2^32 × high) × 2^(32 × at), or takes it away.
+pub(crate) fn move_at(words: &mut [u32; 8], down: bool, at: usize, low: u32, high: u32)
+    requires { at < 7 }
+    ensures { Moved down words.old ((low + 2 ^ 32 * high) * 2 ^ (32 * at)) words.new }
 {
-    let first = add_word(words, at, u64::from(low));
-    let second = add_word(words, at + 1, u64::from(high) + first);
+    let (word, first) = moved(words[at], down, u64::from(low));
+    words[at] = word;
+    let (word, second) = moved(words[at + 1], down, u64::from(high) + first);
+    words[at + 1] = word;
     if second != 0 {
-        carry(words, at + 2);
+        move_one(&mut words[at + 2..], down);
     }
 }
 
-// Takes (low + 2^32 × high) × 2^(32 × at) away.
-pub(crate) fn take_at(words: &mut [u32; 8], at: usize, low: u32, high: u32)
-    requires { (Eight words.old) × (at < 7) }
-    ensures eight { Eight words.new }
-    ensures taken { Taken words.old ((low + 2 ^ 32 * high) * 2 ^ (32 * at)) words.new }
+// Adds another number, or takes it away.
+pub(crate) fn move_all(words: &mut [u32; 8], down: bool, other: &[u32; 8])
+    ensures { Moved down words.old (number other.now) words.new }
 {
-    let first = take_word(words, at, u64::from(low));
-    let second = take_word(words, at + 1, u64::from(high) + first);
-    if second != 0 {
-        borrow(words, at + 2);
+    let mut passed = 0;
+    for (i, more) in other.iter().enumerate() {
+        let (word, next) = moved(words[i], down, u64::from(*more) + passed);
+        words[i] = word;
+        passed = next;
     }
 }
 
-// Adds to one word, and answers what is carried to the next.
-pub(crate) fn add_word(words: &mut [u32; 8], at: usize, more: u64) -> u64
-    requires { (Eight words.old) × ((at < 8) × (more ≤ 2 ^ 32)) }
-    ensures eight { Eight words.new }
-    ensures sum { number words.new + result * 2 ^ (32 * (at + 1)) ≡ number words.old + more * 2 ^ (32 * at) }
-    ensures bound { result ≤ 1 }
+// Adds one, or takes one away, modulo what the words hold.
+fn move_one(words: &mut [u32], down: bool)
+    ensures { PassesOn down words.old words.new }
 {
-    let sum = u64::from(words[at]) + more;
-    words[at] = (sum % (1 << 32)) as u32;
-    sum / (1 << 32)
-}
-
-// Takes from one word, and answers what is borrowed from the next.
-pub(crate) fn take_word(words: &mut [u32; 8], at: usize, less: u64) -> u64
-    requires { (Eight words.old) × ((at < 8) × (less ≤ 2 ^ 32)) }
-    ensures eight { Eight words.new }
-    ensures difference { number words.new + less * 2 ^ (32 * at) ≡ number words.old + result * 2 ^ (32 * (at + 1)) }
-    ensures bound { result ≤ 1 }
-{
-    let word = u64::from(words[at]);
-    if less <= word {
-        words[at] = (word - less) as u32;
-        return 0;
-    }
-    words[at] = (word + (1 << 32) - less) as u32;
-    1
-}
-
-// Adds 2^(32 × at).
-fn carry(words: &mut [u32; 8], at: usize)
-    requires { (Eight words.old) × (at ≤ 8) }
-    ensures eight { Eight words.new }
-    ensures added { Added words.old (2 ^ (32 * at)) words.new }
-{
-    let mut i = at;
-    while i < 8 {
-        if words[i] != u32::MAX {
-            words[i] += 1;
+    for word in words.iter_mut() {
+        let (next, passed) = moved(*word, down, 1);
+        *word = next;
+        if passed == 0 {
             return;
         }
-        words[i] = 0;
-        i += 1;
     }
 }
 
-// Takes 2^(32 × at) away.
-fn borrow(words: &mut [u32; 8], at: usize)
-    requires { (Eight words.old) × (at ≤ 8) }
-    ensures eight { Eight words.new }
-    ensures taken { Taken words.old (2 ^ (32 * at)) words.new }
+// A word with more added or taken away, and what is carried to the next, or borrowed from it.
+fn moved(word: u32, down: bool, more: u64) -> (u32, u64)
+    requires { more ≤ 2 ^ 32 }
+    ensures { (Balanced down word more result.0 (result.1 * 2 ^ 32)) × (result.1 ≤ 1) }
 {
-    let mut i = at;
-    while i < 8 {
-        if words[i] != 0 {
-            words[i] -= 1;
-            return;
-        }
-        words[i] = u32::MAX;
-        i += 1;
+    if down {
+        let sum = u64::from(word) + (1 << 32) - more;
+        ((sum % (1 << 32)) as u32, 1 - sum / (1 << 32))
+    } else {
+        let sum = u64::from(word) + more;
+        ((sum % (1 << 32)) as u32, sum / (1 << 32))
     }
 }
