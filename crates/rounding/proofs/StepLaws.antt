@@ -1,5 +1,5 @@
 -- Laws of the projection's steps.
-use Rattle.std.proofs.Common.{◌≡◌, ℕ, suc, ◌+◌, ◌-◌, ◌*◌, ◌/◌, ◌%◌, ◌^◌, ◌<◌, ◌≤◌, max, Bool, true, false, cond, not, ◌&&◌, ◌||◌, eqb, pos, ◌*ℤ◌, nat_abs, sym, refl, ap, ◌∙◌, subst, ap₂, ⊎_elim, mod-lt, mul_assoc, suc-mul, add-one, arith, pow_pos, pow_mono, pow-add, shr_lt}
+use Rattle.std.proofs.Common.{◌≡◌, ℕ, suc, ◌+◌, ◌-◌, ◌*◌, ◌/◌, ◌%◌, ◌^◌, ◌<◌, ◌≤◌, max, Bool, true, false, cond, not, ◌&&◌, ◌||◌, eqb, pos, ℤ, ◌*ℤ◌, nat_abs, sym, refl, ap, ◌∙◌, subst, ap₂, ⊎_elim, mod-lt, mul_assoc, suc-mul, add-one, arith, pow_pos, pow_mono, pow-add, shr_lt}
 use native.Mathlib.Nat.{max_comm}
 use lib.Count.{count_leading_zeros}
 use lib.Pow.{split, shl-shr}
@@ -17,11 +17,7 @@ use Rattle.formats.specs.Readings.{fine}
 use Rattle.formats.specs.Value.{Value, finite, signed, finer}
 use Rattle.formats.specs.ValueLaws.{signed-*, signed_abs}
 use Rattle.sums.specs.Cuts.{CutAt}
-use Rattle.sums.specs.Sums.{value_of, value, size}
-use Rattle.sums.specs.Words.{twos_complement}
 use Rattle.sums.specs.declared.magnitude.Cut.{Cut}
-use Rattle.sums.specs.declared.sum.Standing.TheVariants.{Finite}
-use Rattle.sums.specs.declared.sum.Sum.{Sum}
 use Rattle.rounding.specs.Answers.{Answers, IsPlaced, Settles, beside, cut_mark, cut_away}
 use Rattle.rounding.specs.Projection.{last_place, significand_of, left_of, remainder_of, is_odd, goes_away, rounded, of_overflow, of_size, answered, projected, mark_of}
 use Rattle.rounding.specs.Rule.{Rule}
@@ -237,11 +233,10 @@ pub projected_is : (m : Meaning) (rule : Rule) (mode : Saturation) (x : Value) (
 projected_is m rule mode x a code laws is coded =
     ap₂ (λ c k. (c, k)) (coded (answered m rule mode x) (sym is.reading) (answered_coded m laws rule mode x)) is.mark
 
--- the answer for a finite sum is that for its sign and its size
-pub sum_answers : (m : Meaning) (rule : Rule) (mode : Saturation) (sum : Sum) (p : Placed) (a : Answer) → sum.standing ≡ Finite → IsPlaced m sum p → Settles m rule mode p a → Answers (value sum) (answered m rule mode (value sum)) a
-sum_answers m rule mode sum p a stands is settles =
-    let x = twos_complement sum.words in
-    let v : value sum ≡ finite x = ap (λ t. value_of t sum.words) stands in
-    rw v
+-- the answer for a finite value is that for its sign and its size
+pub finite_answers : (m : Meaning) (rule : Rule) (mode : Saturation) (v : Value) (x : ℤ) (p : Placed) (a : Answer) → v ≡ finite x → IsPlaced m v p → Settles m rule mode p a → Answers v (answered m rule mode v) a
+finite_answers m rule mode v x p a e is settles =
+    let placed : IsPlaced m (finite x) p = rw e at is in
+    rw e
     (subst (λ y. Answers (finite y) (of_size m rule mode (not (non_neg x)) (nat_abs x)) a) (signed_abs x)
-    (subst (λ y. Answers (finite (signed y (nat_abs x))) (of_size m rule mode y (nat_abs x)) a) is.negative (settles (nat_abs x) is.place is.cut)))
+    (subst (λ y. Answers (finite (signed y (nat_abs x))) (of_size m rule mode y (nat_abs x)) a) placed.negative (settles (nat_abs x) placed.place placed.cut)))

@@ -4,9 +4,8 @@ use Rattle.formats.specs.Meaning.{Meaning}
 use Rattle.formats.specs.Readings.{fine}
 use Rattle.formats.specs.Value.{Value, finite, signed, finer}
 use Rattle.sums.specs.Cuts.{CutAt}
-use Rattle.sums.specs.Sums.{size, is_below_zero}
+use Rattle.sums.specs.Sums.{size_of, below_zero}
 use Rattle.sums.specs.declared.magnitude.Cut.{Cut}
-use Rattle.sums.specs.declared.sum.Sum.{Sum}
 use Rattle.rounding.specs.Projection.{last_place, is_odd, of_size, mark_of}
 use Rattle.rounding.specs.Rule.{Rule}
 use Rattle.rounding.specs.declared.answers.Mark.{Mark}
@@ -35,11 +34,11 @@ cut_away rule negative cut =
     let says = rule.away negative (is_odd cut.digits) in
     cond cut.half (cond cut.rest (says AboveHalf) (says Half)) (cond cut.rest (says BelowHalf) false)
 
--- the sign of the sum, and its size cut at the last place
-pub record IsPlaced (m : Meaning) (sum : Sum) (p : Placed) : Type 0 where
-  pub negative : p.negative ≡ is_below_zero sum
-  pub place : p.place ≡ last_place m (size sum)
-  pub cut : CutAt (size sum) p.place p.cut
+-- the sign of a finite value, and its size cut at the last place
+pub record IsPlaced (m : Meaning) (v : Value) (p : Placed) : Type 0 where
+  pub negative : p.negative ≡ below_zero v
+  pub place : p.place ≡ last_place m (size_of v)
+  pub cut : CutAt (size_of v) p.place p.cut
   pub deep : 64 ≤ p.place
   pub short : p.cut.digits < 2 ^ 12
 

@@ -3,8 +3,8 @@ ghost use Rattle.std.specs.Prelude.{◌≡◌, ℕ, ◌+◌, ◌*◌, ◌^◌, �
 ghost use Rattle.formats.specs.Meaning.{Coded};
 ghost use Rattle.formats.specs.Readings.{fine};
 ghost use Rattle.formats.specs.Value.{Value, infinite, finite, signed, finer};
-ghost use Rattle.sums.specs.Sums.{value, Sound};
-ghost use Rattle.sums.specs.Words.{number, Eight};
+ghost use Rattle.sums.specs.Sums.{value};
+ghost use Rattle.sums.specs.Words.{number};
 ghost use Rattle.rounding.specs.Answers.{Answers, IsPlaced, Settles, beside, cut_mark, cut_away};
 ghost use Rattle.rounding.specs.Laws.{KeepsOrder, KeepsReadings, NearestFor};
 ghost use Rattle.rounding.specs.Projection.{last_place, end, of_infinity, of_overflow, answered, projected};
@@ -15,7 +15,7 @@ use crate::rule::RoundingRule;
 use formats::format::Format;
 use formats::reading::{Dyadic, Reading};
 use sums::magnitude::{Cut, Magnitude};
-use sums::sum::{Standing, Sum};
+use sums::sum::Sum;
 
 // The code and the mark of the sum's projection into the format. Where the rule goes to the nearer
 // neighbour and the sum is within the finite ends, no reading of the format is nearer.
@@ -25,7 +25,6 @@ pub fn project<F: Format, R: RoundingRule>(
     mode: Saturation,
     sum: &Sum,
 ) -> (u16, Mark)
-    requires { Sound sum.now }
     ensures projected { result ≡ projected (F.Format.meaning format.now) (R.RoundingRule.table rule.now) mode (value sum.now) }
     ensures order { KeepsOrder (F.Format.meaning format.now) (R.RoundingRule.table rule.now) mode }
     ensures readings { KeepsReadings (F.Format.meaning format.now) (R.RoundingRule.table rule.now) mode }
@@ -68,17 +67,16 @@ impl<F: Format, R: RoundingRule> Target<'_, F, R> {
     }
 
     fn answer(&self, sum: &Sum) -> Answer
-        requires { Sound sum.now }
         ensures { Answers (value sum.now) (answered (F.Format.meaning self.now.format.now) (R.RoundingRule.table self.now.rule.now) self.now.mode (value sum.now)) result }
     {
-        match sum.standing {
-            Standing::NotANumber => Answer {
+        match sum {
+            Sum::NotANumber => Answer {
                 reading: Reading::Nan,
                 mark: Mark::Unordered,
             },
-            Standing::PositiveInfinity => self.of_infinity(false),
-            Standing::NegativeInfinity => self.of_infinity(true),
-            Standing::Finite => self.of_size(&self.placed(sum)),
+            Sum::PositiveInfinity => self.of_infinity(false),
+            Sum::NegativeInfinity => self.of_infinity(true),
+            Sum::Finite(_) => self.of_size(&self.placed(sum)),
         }
     }
 
@@ -146,8 +144,7 @@ impl<F: Format, R: RoundingRule> Target<'_, F, R> {
 
     // The sign and the size of the sum, cut at its last place.
     fn placed(&self, sum: &Sum) -> Placed
-        requires { Sound sum.now }
-        ensures { IsPlaced (F.Format.meaning self.now.format.now) sum.now result }
+        ensures { IsPlaced (F.Format.meaning self.now.format.now) (value sum.now) result }
     {
         let size = sum.magnitude();
         let place = self.last_place(&size);
@@ -161,7 +158,6 @@ impl<F: Format, R: RoundingRule> Target<'_, F, R> {
     // The place of the last digit, counted from 2^-96: the greater of the least exponent and that which
     // leaves `precision` digits.
     fn last_place(&self, size: &Magnitude) -> u32
-        requires { Eight size.now.words }
         ensures place { result ≡ last_place (F.Format.meaning self.now.format.now) (number size.now.words) }
         ensures bounds { (64 ≤ result) × (result < 256) }
         ensures fits { number size.now.words < 2 ^ (12 + result) }

@@ -6,7 +6,7 @@ use Rattle.rounding.proofs.project.Target.placed.Goals as goal
 
 pub returns : goal.returns
 returns g c =
-    let is = c.magnitude-size.ensures.size in
+    let is = c.magnitude-size.ensures in
     let place = c.last_place-place.result in
     record {
       negative = c.is_negative.ensures;
