@@ -7,10 +7,11 @@ use Rattle.layout.specs.Sizes.{bottom, Shaped}
 use Rattle.layout.proofs.DigitLaws.{digits_mono}
 use Rattle.layout.proofs.SizeLaws.{twice}
 use Rattle.formats.specs.Meaning.{Meaning, Lawful}
+use Rattle.sums.specs.Cuts.{remainder_of}
 use Rattle.rounding.specs.Rule.{Rule, Monotone, NearestAt}
-use Rattle.rounding.specs.Projection.{last_place, significand_of, left_of, remainder_of, is_odd, goes_away, rounded}
-use Rattle.rounding.specs.declared.answers.Remainder.{Remainder}
-use Rattle.rounding.specs.declared.answers.Remainder.TheVariants.{BelowHalf, Half, AboveHalf}
+use Rattle.rounding.specs.Projection.{last_place, significand_of, left_of, is_odd, goes_away, rounded}
+use Rattle.sums.specs.declared.magnitude.Remainder.{Remainder}
+use Rattle.sums.specs.declared.magnitude.Remainder.TheVariants.{BelowHalf, Half, AboveHalf}
 use Rattle.rounding.proofs.CellLaws.{Cell, cell_at, cell_order, cell_exact, nothing_between, lower_shaped, upper_shaped, shaped_finer}
 
 -- a size in units of 2^-96 that the precision has

@@ -1,13 +1,15 @@
 -- Laws of the projection's steps.
-use Rattle.std.proofs.Common.{◌≡◌, ℕ, suc, ◌+◌, ◌-◌, ◌*◌, ◌/◌, ◌%◌, ◌^◌, ◌<◌, ◌≤◌, max, Bool, true, false, cond, not, ◌&&◌, ◌||◌, eqb, pos, ℤ, ◌*ℤ◌, nat_abs, sym, refl, ap, ◌∙◌, subst, ap₂, ⊎_elim, mod-lt, mul_assoc, suc-mul, add-one, arith, pow_pos, pow_mono, pow-add, shr_lt}
+use Rattle.std.proofs.Common.{◌≡◌, ℕ, suc, ◌+◌, ◌-◌, ◌*◌, ◌/◌, ◌%◌, ◌^◌, ◌<◌, ◌≤◌, max, Bool, true, false, cond, not, None, ◌⊎◌, pos, ℤ, ◌*ℤ◌, nat_abs, sym, refl, ap, ◌∙◌, subst, ap₂, ⊎_elim, mod-lt, mul_assoc, suc-mul, add-one, arith, pow_pos, pow_mono, pow-add, shr_lt, rules}
 use native.Mathlib.Nat.{max_comm}
 use lib.Count.{count_leading_zeros}
 use lib.Pow.{split, shl-shr}
 use lib.Signed.{non_neg}
 use mir.Val.{bool_byte}
-use Rattle.std.proofs.lemmas.Nat.{mod-pow-add, leading_top, mul-le}
+use Rattle.std.proofs.lemmas.Nat.{leading_top, mul-le}
 use Rattle.std.proofs.lemmas.Int.{ints}
-use Rattle.std.proofs.lemmas.Bool.{cases_lt, eqb-true, eqb-false, ne_eqb, eq-eqb, not-true, not-false, lt-ltb, le-ltb, or_cases, or_parts, cases_Bool}
+use Rattle.std.specs.Option.{is_some}
+use Rattle.std.proofs.lemmas.Bool.Decides.{nat_tests}
+use Rattle.std.proofs.lemmas.Bool.{cases_lt, lt-ltb, le-ltb}
 use Rattle.layout.specs.Digits.{digits}
 use Rattle.layout.specs.Sizes.{bottom}
 use Rattle.layout.proofs.DigitLaws.{digits_below, pow_order}
@@ -19,7 +21,7 @@ use Rattle.formats.specs.ValueLaws.{signed-*, signed_abs}
 use Rattle.sums.specs.Cuts.{CutAt}
 use Rattle.sums.specs.declared.magnitude.Cut.{Cut}
 use Rattle.rounding.specs.Answers.{Answers, IsPlaced, Settles, beside, cut_mark, cut_away}
-use Rattle.rounding.specs.Projection.{last_place, significand_of, left_of, remainder_of, is_odd, goes_away, rounded, of_overflow, of_size, answered, projected, mark_of}
+use Rattle.rounding.specs.Projection.{last_place, significand_of, left_of, goes_away, rounded, of_overflow, of_size, answered, projected, mark_of}
 use Rattle.rounding.specs.Rule.{Rule}
 use Rattle.rounding.specs.declared.answers.Mark.{Mark}
 use Rattle.rounding.specs.declared.answers.Mark.TheVariants.{Exact}
@@ -28,7 +30,7 @@ use Rattle.rounding.specs.declared.project.Answer.{Answer}
 use Rattle.rounding.specs.declared.project.Placed.{Placed}
 use Rattle.rounding.proofs.CellLaws.{in_units}
 use Rattle.rounding.proofs.RoundLaws.{size_ways, answered_coded}
-use Rattle.rounding.proofs.SizedLaws.{below_half, at_half, above_half, largest_fine, rounded_most, place_some}
+use Rattle.rounding.proofs.SizedLaws.{largest_fine, rounded_most, place_some}
 
 -- ±s × 2^e as a finer ±n
 pub reads : (negative : Bool) (s e n k : ℕ) → s * 2 ^ e ≡ n * 2 ^ k → finite (signed negative (s * 2 ^ e)) ≡ finite (signed negative n *ℤ pos (2 ^ k))
@@ -110,59 +112,9 @@ mark_exact : (negative : Bool) (n k : ℕ) → n ≡ k * 2 ^ 64 → marked negat
 mark_exact true n k e = rw (signed-* true k (2 ^ 64)) (grind (arith, ints))
 mark_exact false n k e = rw (le-ltb (k * 2 ^ 64) n (omega arith), le-ltb n (k * 2 ^ 64) (omega arith)) refl
 
--- what is left below the cut, by the bit below it and what is left below that
-left_is : (n e : ℕ) → 0 < e → n % 2 ^ e ≡ (n / 2 ^ (e - 1) % 2) * 2 ^ (e - 1) + n % 2 ^ (e - 1)
-left_is n e h = let x : e ≡ 1 + (e - 1) = omega arith in ap (λ y. n % 2 ^ y) x ∙ mod-pow-add n 1 (e - 1)
-
-none_away : (rule : Rule) (negative : Bool) (cut : Cut) → cut.half ≡ false → cut.rest ≡ false → cut_away rule negative cut ≡ false
-none_away rule negative cut h r = rw (h, r) refl
-
-module _ (n e : ℕ) (cut : Cut) (some : 0 < e) (is : CutAt n e cut) where
-  left_low : cut.half ≡ false → n % 2 ^ e ≡ n % 2 ^ (e - 1)
-  left_low h =
-      let z : n / 2 ^ (e - 1) % 2 ≡ 0 = omega (arith, eqb-false (n / 2 ^ (e - 1) % 2) 1 (sym is.half ∙ h)) in
-      omega (arith, left_is n e some, ap (λ x. x * 2 ^ (e - 1)) z)
-
-  left_high : cut.half ≡ true → n % 2 ^ e ≡ 2 ^ (e - 1) + n % 2 ^ (e - 1)
-  left_high h =
-      let z = eqb-true (n / 2 ^ (e - 1) % 2) 1 (sym is.half ∙ h) in
-      omega (arith, left_is n e some, ap (λ x. x * 2 ^ (e - 1)) z)
-
-  rest_none : cut.rest ≡ false → n % 2 ^ (e - 1) ≡ 0
-  rest_none r = eqb-true (n % 2 ^ (e - 1)) 0 (not-false (eqb (n % 2 ^ (e - 1)) 0) (sym is.rest ∙ r))
-
-  rest_some : cut.rest ≡ true → 0 < n % 2 ^ (e - 1)
-  rest_some r = omega (arith, eqb-false (n % 2 ^ (e - 1)) 0 (not-true (eqb (n % 2 ^ (e - 1)) 0) (sym is.rest ∙ r)))
-
-  left_none : cut.half ≡ false → cut.rest ≡ false → n % 2 ^ e ≡ 0
-  left_none h r = left_low h ∙ rest_none r
-
-  left_some : (cut.half || cut.rest) ≡ true → 0 < n % 2 ^ e
-  left_some t =
-      ⊎_elim
-      (λ h. omega (arith, left_high h, pow_pos (e - 1)))
-      (λ r. omega (arith, left_is n e some, rest_some r))
-      (or_cases cut.half cut.rest t)
-
-  -- the rule's word, by the four cases
-  says_left : (rule : Rule) (negative : Bool) → cut_away rule negative cut ≡ (not (eqb (n % 2 ^ e) 0) && rule.away negative (is_odd (n / 2 ^ e)) (remainder_of (n % 2 ^ e) (2 ^ (e - 1))))
-  says_left rule negative =
-      let left = n % 2 ^ e in
-      let unit = 2 ^ (e - 1) in
-      let short : n % unit < unit = mod-lt n (pow_pos (e - 1)) in
-      ⊎_elim
-      (λ h.
-      let some : left ≡ 0 → ⊥ = λ z. omega (arith, left_high h, pow_pos (e - 1)) in
-      ⊎_elim
-      (λ r. rw (h, r, is.digits, ne_eqb left 0 some, above_half left unit (omega (arith, left_high h, rest_some r))) refl)
-      (λ r. rw (h, r, is.digits, ne_eqb left 0 some, at_half left unit (omega (arith, left_high h, rest_none r))) refl)
-      (cases_Bool cut.rest))
-      (λ h.
-      ⊎_elim
-      (λ r. rw (h, r, is.digits, ne_eqb left 0 (λ z. omega (arith, left_low h, rest_some r)), below_half left unit (omega (arith, left_low h))) refl)
-      (λ r. none_away rule negative cut h r ∙ rw (eq-eqb left 0 (left_none h r)) refl)
-      (cases_Bool cut.rest))
-      (cases_Bool cut.half)
+-- nothing is left below the cut, or something is
+left_ways : (n e : ℕ) (cut : Cut) → CutAt n e cut → ((n % 2 ^ e ≡ 0) × (cut.remainder ≡ None)) ⊎ ((0 < n % 2 ^ e) × (is_some cut.remainder ≡ true))
+left_ways n e cut is = rw is.remainder (grind (arith, nat_tests))
 
 picks : (away : Bool) (d : ℕ) → cond away (d + 1) d ≡ d + bool_byte away
 picks true d = refl
@@ -176,7 +128,7 @@ module _ (m : Meaning) (laws : Lawful m) (rule : Rule) (negative : Bool) (n plac
 
   away_is : goes_away m rule negative n ≡ cut_away rule negative cut
   unfolding goes_away left_of significand_of
-  away_is = rw (sym at) (sym (says_left n place cut (omega arith) is rule negative))
+  away_is = rw (sym at, is.remainder, is.digits) (search rules)
 
   size_is : n ≡ cut.digits * 2 ^ place + n % 2 ^ place
   size_is = rw is.digits (sym (split n place))
@@ -198,13 +150,12 @@ module _ (m : Meaning) (laws : Lawful m) (rule : Rule) (negative : Bool) (n plac
     mark_is : marked negative n (s * 2 ^ (place - 64)) ≡ cut_mark negative cut away
     mark_is =
         ⊎_elim
-        (λ some. rw some (by_away away s e (left_some n place cut (omega arith) is some)))
         (λ none.
-        let (h, r) = or_parts cut.half cut.rest none in
-        let still : away ≡ false = aw ∙ none_away rule negative cut h r in
+        let still : away ≡ false = aw ∙ rw none.1 refl in
         let same : s * 2 ^ place ≡ cut.digits * 2 ^ place = ap (λ x. x * 2 ^ place) (omega (arith, rw still at e)) in
-        rw none (mark_exact negative n (s * 2 ^ (place - 64)) (omega (arith, in_units s place 64 deep, size_is, left_none n place cut (omega arith) is h r))))
-        (cases_Bool (cut.half || cut.rest))
+        rw none.1 (mark_exact negative n (s * 2 ^ (place - 64)) (omega (arith, in_units s place 64 deep, size_is))))
+        (λ some. rw some.1 (by_away away s e some.0))
+        (left_ways n place cut is)
 
     pub settled : (mode : Saturation) (a : Answer) → s * 2 ^ place ≤ m.largest * 2 ^ 64 → fine a.reading ≡ finite (signed negative (s * 2 ^ (place + 32))) → a.mark ≡ cut_mark negative cut away → Answers (finite (signed negative n)) (of_size m rule mode negative n) a
     settled mode a most reading mark =

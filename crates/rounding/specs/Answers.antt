@@ -1,5 +1,6 @@
 -- What the steps of the projection answer.
-use Rattle.std.specs.Prelude.{◌≡◌, ℕ, ◌^◌, ◌<◌, ◌≤◌, Bool, false, not, cond, ◌||◌}
+use Rattle.std.specs.Prelude.{◌≡◌, ℕ, ◌^◌, ◌<◌, ◌≤◌, Bool, false, not, cond, Some, None}
+use Rattle.std.specs.Option.{is_some}
 use Rattle.formats.specs.Meaning.{Meaning}
 use Rattle.formats.specs.Readings.{fine}
 use Rattle.formats.specs.Value.{Value, finite, signed, finer}
@@ -10,7 +11,6 @@ use Rattle.rounding.specs.Projection.{last_place, is_odd, of_size, mark_of}
 use Rattle.rounding.specs.Rule.{Rule}
 use Rattle.rounding.specs.declared.answers.Mark.{Mark}
 use Rattle.rounding.specs.declared.answers.Mark.TheVariants.{Exact, Low, High}
-use Rattle.rounding.specs.declared.answers.Remainder.TheVariants.{BelowHalf, Half, AboveHalf}
 use Rattle.rounding.specs.declared.answers.Saturation.{Saturation}
 use Rattle.rounding.specs.declared.project.Answer.{Answer}
 use Rattle.rounding.specs.declared.project.Placed.{Placed}
@@ -26,13 +26,11 @@ beside above = cond above High Low
 
 -- the mark of a number cut at a bit, which goes to the next one away from zero or not
 abbrev pub cut_mark : Bool → Cut → Bool → Mark
-cut_mark negative cut away = cond (cut.half || cut.rest) (beside (cond away (not negative) negative)) Exact
+cut_mark negative cut away = cond (is_some cut.remainder) (beside (cond away (not negative) negative)) Exact
 
 -- whether a number cut at a bit goes to the next one away from zero
 abbrev pub cut_away : Rule → Bool → Cut → Bool
-cut_away rule negative cut =
-    let says = rule.away negative (is_odd cut.digits) in
-    cond cut.half (cond cut.rest (says AboveHalf) (says Half)) (cond cut.rest (says BelowHalf) false)
+cut_away rule negative cut = elim cut.remainder [ None ↦ false | Some left ↦ rule.away negative (is_odd cut.digits) left ]
 
 -- the sign of a finite value, and its size cut at the last place
 pub record IsPlaced (m : Meaning) (v : Value) (p : Placed) : Type 0 where

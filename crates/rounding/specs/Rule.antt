@@ -1,7 +1,7 @@
 -- What a rounding rule means: its two tables of answers, with the law that it shows.
 use Rattle.std.specs.Prelude.{◌≡◌, Bool, true, false}
-use Rattle.rounding.specs.declared.answers.Remainder.{Remainder}
-use Rattle.rounding.specs.declared.answers.Remainder.TheVariants.{BelowHalf, Half, AboveHalf}
+use Rattle.sums.specs.declared.magnitude.Remainder.{Remainder}
+use Rattle.sums.specs.declared.magnitude.Remainder.TheVariants.{BelowHalf, Half, AboveHalf}
 
 pub record Rule : Type 0 where
   -- by the sign (true: negative), whether the last place is odd, and what is left below it

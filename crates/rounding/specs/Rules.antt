@@ -1,8 +1,8 @@
 -- The rounding rules by their tables, and their bytes.
 use Rattle.std.specs.Prelude.{◌≡◌, ℕ, ◌≤◌, Bool, true, false, not, Some, None, Option}
 use Rattle.rounding.specs.Rule.{Rule}
-use Rattle.rounding.specs.declared.answers.Remainder.{Remainder}
-use Rattle.rounding.specs.declared.answers.Remainder.TheVariants.{BelowHalf, Half, AboveHalf}
+use Rattle.sums.specs.declared.magnitude.Remainder.{Remainder}
+use Rattle.sums.specs.declared.magnitude.Remainder.TheVariants.{BelowHalf, Half, AboveHalf}
 use Rattle.rounding.specs.declared.answers.Saturation.{Saturation}
 use Rattle.rounding.specs.declared.answers.Saturation.TheVariants.{SatFinite, SatPropagate, OvfInf}
 use Rattle.rounding.specs.declared.rules.AnyRule.{AnyRule}

@@ -10,7 +10,7 @@ ghost use Rattle.rounding.specs.Laws.{KeepsOrder, KeepsReadings, NearestFor};
 ghost use Rattle.rounding.specs.Projection.{last_place, end, of_infinity, of_overflow, answered, projected};
 ghost use Rattle.rounding.specs.Rule.{Nearest};
 
-use crate::answers::{Mark, Remainder, Saturation};
+use crate::answers::{Mark, Saturation};
 use crate::rule::RoundingRule;
 use formats::format::Format;
 use formats::reading::{Dyadic, Reading};
@@ -100,12 +100,12 @@ impl<F: Format, R: RoundingRule> Target<'_, F, R> {
         requires { (64 ≤ size.now.place) × (size.now.cut.digits < 2 ^ 12) }
         ensures { Settles (F.Format.meaning self.now.format.now) (R.RoundingRule.table self.now.rule.now) self.now.mode size.now result }
     {
-        let away = self.goes_away(size.negative, &size.cut);
+        let away = self.goes_away(size);
         let significand = size.cut.digits + u32::from(away);
         if self.within(significand, size.place) {
             Answer {
                 reading: finite(size.negative, significand, size.place),
-                mark: mark(size.negative, &size.cut, away),
+                mark: size.mark(away),
             }
         } else {
             self.of_overflow(size.negative)
@@ -130,16 +130,13 @@ impl<F: Format, R: RoundingRule> Target<'_, F, R> {
     }
 
     // Whether the rule goes away from zero, where anything is left below the cut.
-    fn goes_away(&self, negative: bool, cut: &Cut) -> bool
-        ensures { result ≡ cut_away (R.RoundingRule.table self.now.rule.now) negative cut.now }
+    fn goes_away(&self, size: &Placed) -> bool
+        ensures { result ≡ cut_away (R.RoundingRule.table self.now.rule.now) size.now.negative size.now.cut }
     {
-        let odd = cut.digits % 2 == 1;
-        match (cut.half, cut.rest) {
-            (false, false) => false,
-            (false, true) => self.rule.goes_away(negative, odd, Remainder::BelowHalf),
-            (true, false) => self.rule.goes_away(negative, odd, Remainder::Half),
-            (true, true) => self.rule.goes_away(negative, odd, Remainder::AboveHalf),
-        }
+        let odd = size.cut.digits % 2 == 1;
+        size.cut
+            .remainder
+            .is_some_and(|left| self.rule.goes_away(size.negative, odd, left))
     }
 
     // The sign and the size of the sum, cut at its last place.
@@ -193,6 +190,18 @@ impl<F: Format, R: RoundingRule> Target<'_, F, R> {
     }
 }
 
+impl Placed {
+    // The mark of a finite answer, which goes away from zero or not.
+    fn mark(&self, away: bool) -> Mark
+        ensures { result ≡ cut_mark self.now.negative self.now.cut away }
+    {
+        match self.cut.remainder {
+            None => Mark::Exact,
+            Some(_) => beside(self.negative != away),
+        }
+    }
+}
+
 fn infinity(negative: bool) -> Reading
     ensures { fine result ≡ infinite negative }
 {
@@ -213,17 +222,6 @@ fn finite(negative: bool, significand: u32, place: u32) -> Reading
         significand: significand as u16,
         exponent: place as i8 - 96,
     })
-}
-
-// The mark of a finite answer.
-fn mark(negative: bool, cut: &Cut, away: bool) -> Mark
-    ensures { result ≡ cut_mark negative cut.now away }
-{
-    if cut.half || cut.rest {
-        beside(negative != away)
-    } else {
-        Mark::Exact
-    }
 }
 
 // The mark of an answer above the value, or of one below it.
