@@ -6,7 +6,7 @@ use Rattle.formats.specs.Value.{Value, nan, infinite, finite, less}
 use Rattle.formats.specs.ValueLaws.{same_finite}
 use Rattle.rounding.specs.Laws.{AnswersNearest, NearestFor, read_back}
 use Rattle.rounding.specs.Projection.{projected, is_odd, significand_of}
-use Rattle.rounding.specs.Rule.{Rule, Monotone}
+use Rattle.rounding.specs.Rule.{Rule, Monotone, Nearest}
 use Rattle.rounding.specs.declared.answers.Saturation.{Saturation}
 use Rattle.rounding.proofs.RoundLaws.{keeps_order, keeps_nearest}
 use Rattle.sums.specs.Sums.{value, value_of, Cleared, Sound}
@@ -18,7 +18,7 @@ use Rattle.sums.proofs.SignedLaws.{words_signed}
 use Rattle.terms.specs.Terms.{exact_sum}
 use Rattle.registers.specs.Calls.{New, Has, read_of}
 use Rattle.registers.specs.Histories.{Known}
-use Rattle.registers.specs.Laws.{SameTerms, EqualExactlyWhen, ReadsItsTerms, KeepsOrder, NearestCode, ReadsNearest, Nearest, RegisterLaws}
+use Rattle.registers.specs.Laws.{SameTerms, EqualExactlyWhen, ReadsItsTerms, KeepsOrder, NearestCode, ReadsNearest, RegisterLaws}
 use Rattle.registers.specs.declared.register.Register.{Register}
 use Rattle.registers.proofs.HistoryLaws.{known_has}
 

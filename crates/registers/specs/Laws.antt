@@ -4,7 +4,7 @@ use Rattle.formats.specs.Meaning.{Meaning, Lawful}
 use Rattle.formats.specs.Value.{Value, finite, is_nan, less}
 use Rattle.rounding.specs.Laws.{distance}
 use Rattle.rounding.specs.Projection.{projected}
-use Rattle.rounding.specs.Rule.{Rule, Monotone, NearestAt}
+use Rattle.rounding.specs.Rule.{Rule, Monotone, Nearest}
 use Rattle.rounding.specs.declared.answers.Mark.{Mark}
 use Rattle.rounding.specs.declared.answers.Saturation.{Saturation}
 use Rattle.terms.specs.Terms.{exact_sum}
@@ -46,10 +46,6 @@ pub record NearestCode (m : Meaning) (x : ℤ) (code : ℕ) : Type 0 where
 abbrev pub ReadsNearest : Meaning → Rule → Saturation → Register → Type 0
 ReadsNearest m rule mode r = (ts : List Value) (x : ℤ) → Known r ts → exact_sum ts ≡ finite x → unsigned_abs x ≤ m.largest * 2 ^ 64 →
     NearestCode m x (read_of m rule mode r).0.0
-
--- "toward" below the half and "away" above it, for either sign and parity
-abbrev pub Nearest : Rule → Type 0
-Nearest rule = (negative odd : Bool) → NearestAt rule negative odd
 
 -- the laws together, over every lawful format, every rule and every mode, for all registers that histories lead to
 pub record RegisterLaws : Type 0 where

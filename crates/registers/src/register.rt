@@ -20,7 +20,7 @@ use crate::products::products;
 use formats::fault::Fault;
 use formats::format::Format;
 use rounding::answers::{Mark, Saturation};
-use rounding::project::{project, project_nearest};
+use rounding::project::project;
 use rounding::rule::{NearestRule, RoundingRule};
 use sums::sum::Sum;
 use terms::term::Term;
@@ -163,7 +163,8 @@ impl Register {
         ensures terms { ReadsItsTerms (F.Format.meaning format.now) (R.RoundingRule.table rule.now) mode self.now result }
         ensures nearest { ReadsNearest (F.Format.meaning format.now) (R.RoundingRule.table rule.now) mode self.now }
     {
-        self.counted(project_nearest(format, rule, mode, &self.sum))
+        let answer = project(format, rule, mode, &self.sum);
+        self.counted(answer)
     }
 
     // An answer beside the number of terms.

@@ -1,5 +1,5 @@
 -- A size between its two neighbours of a precision: n = S × 2^e + left.
-use Rattle.std.proofs.Common.{◌≡◌, ℕ, suc, ◌+◌, ◌-◌, ◌*◌, ◌/◌, ◌%◌, ◌^◌, ◌<◌, ◌≤◌, max, ◌⊎◌, sym, refl, ap, ◌∙◌, inl, inr, ⊎_elim, mul-le-mul_right, mod-lt, mul_assoc, suc-mul, arith, pow_pos, pow_mono, pow-add, shr_lt}
+use Rattle.std.proofs.Common.{◌≡◌, ℕ, suc, ◌+◌, ◌-◌, ◌*◌, ◌/◌, ◌%◌, ◌^◌, ◌<◌, ◌≤◌, max, ◌⊎◌, sym, refl, ap, ◌∙◌, inl, inr, ⊎_elim, mul-le-mul_right, mod-lt, mul_assoc, suc-mul, arith, rules, pow_pos, pow_mono, pow-add, shr_lt}
 use native.Mathlib.Nat.{max-eq_left, max-eq_right}
 use lib.Pow.{split, shl-shr, shr_mono}
 use Rattle.std.proofs.lemmas.Bool.{cases_lt, cases_eq, cases_order}
@@ -86,7 +86,7 @@ module _ (p b n e s left : ℕ) (precise : 1 ≤ p) (cell : Cell p b n e s left)
       (cases_lt k e)
 
   pub lower_shaped : Shaped p b (s * 2 ^ e)
-  lower_shaped = (s, e, refl, cell.short, cell.above)
+  lower_shaped = search rules
 
   pub upper_shaped : Shaped p b (s * 2 ^ e + 2 ^ e)
   upper_shaped =

@@ -1,19 +1,16 @@
 -- The projection keeps order, readings and nearness.
-use Rattle.std.proofs.Common.{◌≡◌, ℕ, zero, suc, ◌+◌, ◌*◌, ◌/◌, ◌^◌, ◌<◌, ◌≤◌, Bool, true, false, not, ◌⊎◌, ℤ, pos, negsuc, ◌-ℤ◌, ◌*ℤ◌, neg_ℤ, nat_abs, sym, refl, ap, ◌∙◌, inl, inr, ⊎_elim, arith}
-use lib.Pow.{shl-shr}
-use lib.Signed.{lt_z, non_neg}
-use Rattle.std.proofs.lemmas.Bool.{cases_lt, cond_both, le-leb, lt-leb, le-ltb, ltb-true, false≢true}
+use Rattle.std.proofs.Common.{◌≡◌, ℕ, suc, ◌+◌, ◌*◌, ◌/◌, ◌^◌, ◌<◌, ◌≤◌, Bool, true, false, not, ◌⊎◌, ℤ, pos, negsuc, ◌-ℤ◌, ◌*ℤ◌, nat_abs, sym, ap, ◌∙◌, ⊎_elim, arith, rules}
+use lib.Signed.{non_neg}
+use Rattle.std.proofs.lemmas.Bool.{ltb-true}
 use Rattle.std.proofs.lemmas.Int.{ints}
 use Rattle.layout.specs.Sizes.{bottom}
 use Rattle.formats.specs.Meaning.{Meaning, Lawful, Representable, Coded}
 use Rattle.formats.specs.Value.{Value, nan, infinite, finite, signed, less}
 use Rattle.formats.specs.ValueLaws.{signed-*, abs-*, abs_signed, signed_abs}
 use Rattle.rounding.specs.Laws.{KeepsOrder, KeepsNearest, KeepsReadings, read_back}
-use Rattle.rounding.specs.Projection.{rounded, end, of_infinity, of_overflow, of_size, answered, mark_of}
+use Rattle.rounding.specs.Projection.{rounded, end, of_infinity, of_overflow, of_size, answered}
 use Rattle.rounding.specs.Rule.{Rule, Monotone}
-use Rattle.rounding.specs.declared.answers.Mark.TheVariants.{Exact}
 use Rattle.rounding.specs.declared.answers.Saturation.{Saturation}
-use Rattle.rounding.specs.declared.answers.Saturation.TheVariants.{SatFinite, SatPropagate, OvfInf}
 use Rattle.rounding.proofs.CellLaws.{shaped_finer, shaped_coarser}
 use Rattle.rounding.proofs.SizedLaws.{largest_fine, rounded_fine, rounded_exact, rounded_most, rounded_rises, gap}
 
@@ -28,47 +25,18 @@ Beyond m rule mode negative n =
 
 pub size_ways : (m : Meaning) (rule : Rule) (mode : Saturation) (negative : Bool) (n : ℕ) → Within m rule mode negative n ⊎ Beyond m rule mode negative n
 unfolding of_size
-size_ways m rule mode negative n =
-    ⊎_elim
-    (λ lt. inr (lt, rw (lt-leb (rounded m rule negative n) (m.largest * 2 ^ 64) lt) refl))
-    (λ le. inl (le, rw (le-leb (rounded m rule negative n) (m.largest * 2 ^ 64) le) refl))
-    (cases_lt (m.largest * 2 ^ 64) (rounded m rule negative n))
-
--- the sign of a product
-negative_size : (n : ℕ) → 0 < n → non_neg (neg_ℤ (pos n)) ≡ false
-negative_size zero h = absurd (omega arith)
-negative_size (suc n) h = refl
+size_ways m rule mode negative n = search rules
 
 sign_finer : (z : ℤ) → non_neg (z *ℤ pos (2 ^ 64)) ≡ non_neg z
-sign_finer (pos n) = refl
-sign_finer (negsuc n) = negative_size (suc n * 2 ^ 64) (omega arith)
-
-not_itself : (z : ℤ) → lt_z z z ≡ false
-not_itself (pos n) = le-ltb n n (omega arith)
-not_itself (negsuc n) = le-ltb n n (omega arith)
-
-mark_exact : (z : ℤ) → mark_of (finite (z *ℤ pos (2 ^ 64))) (finite z) ≡ Exact
-mark_exact z = rw (not_itself (z *ℤ pos (2 ^ 64))) refl
+sign_finer y0 = search rules
 
 -- a value at a distance g from x, where each size of v is at least as far
 near : (x v : ℤ) (r g : ℕ) → r ≤ nat_abs x + g → nat_abs x ≤ r + g → g ≤ nat_abs x → (nat_abs v + g ≤ nat_abs x) ⊎ (nat_abs x + g ≤ nat_abs v) → nat_abs (signed (not (non_neg x)) r -ℤ x) ≤ nat_abs (v -ℤ x)
-near (pos n) v r g a b c d = ⊎_elim (λ l. omega (arith, ints)) (λ l. omega (arith, ints)) d
-near (negsuc n) v r g a b c d = ⊎_elim (λ l. omega (arith, ints)) (λ l. omega (arith, ints)) d
+near y0 v r g a b c d = search rules
 
 module _ (m : Meaning) (laws : Lawful m) where
   end_coded : (negative : Bool) → Coded m (end m negative)
-  end_coded negative = laws.finite_read (signed negative m.largest) (rw (abs_signed negative m.largest) laws.largest_read)
-
-  infinity_coded : (mode : Saturation) (negative : Bool) → Coded m (of_infinity m mode negative)
-  infinity_coded SatFinite negative = end_coded negative
-  infinity_coded SatPropagate negative = laws.infinite_read negative
-  infinity_coded OvfInf negative = laws.infinite_read negative
-
-  overflow_coded : (rule : Rule) (mode : Saturation) (negative : Bool) → Coded m (of_overflow m rule mode negative)
-  overflow_coded rule SatFinite negative = end_coded negative
-  overflow_coded rule SatPropagate negative = end_coded negative
-  overflow_coded rule OvfInf negative =
-      cond_both (rule.overflows negative) (infinite negative) (end m negative) (Coded m) (λ e. laws.infinite_read negative) (λ e. end_coded negative)
+  end_coded negative = search rules
 
   size_coded : (rule : Rule) (mode : Saturation) (negative : Bool) (n : ℕ) → Coded m (of_size m rule mode negative n)
   size_coded rule mode negative n =
@@ -76,14 +44,13 @@ module _ (m : Meaning) (laws : Lawful m) where
       (λ t.
       let k = rounded m rule negative n / 2 ^ 64 in
       let (shaped, is) = shaped_coarser m.precision (bottom m.least) (rounded m rule negative n) (rounded_fine m laws rule negative n) in
-      let most : k ≤ m.largest = omega arith in
-      rw t.1 (laws.finite_read (signed negative k) (rw (abs_signed negative k) (shaped, most))))
-      (λ t. rw t.1 (overflow_coded rule mode negative))
+      rw t.1 (laws.finite_read (signed negative k) (rw (abs_signed negative k) (shaped, omega arith))))
+      (λ t. rw t.1 (grind (arith, ints)))
       (size_ways m rule mode negative n)
 
   pub answered_coded : (rule : Rule) (mode : Saturation) (x : Value) → Coded m (answered m rule mode x)
   answered_coded rule mode nan = laws.nan_read
-  answered_coded rule mode (infinite negative) = infinity_coded mode negative
+  answered_coded rule mode (infinite negative) = grind (arith, ints)
   answered_coded rule mode (finite x) = size_coded rule mode (not (non_neg x)) (nat_abs x)
 
   -- the code that is answered reads as the value that is answered
@@ -95,15 +62,12 @@ module _ (m : Meaning) (laws : Lawful m) where
       let negative = not (non_neg z) in
       let n = nat_abs z * 2 ^ 64 in
       let is = rounded_exact m laws rule negative n (shaped_finer m.precision (bottom m.least) (nat_abs z) shaped) in
-      let back : rounded m rule negative n / 2 ^ 64 ≡ nat_abs z = ap (λ x. x / 2 ^ 64) is ∙ shl-shr (nat_abs z) 64 in
-      rw (sign_finer z, abs-* z (2 ^ 64))
-      (⊎_elim
-      (λ t. t.1 ∙ ap finite (ap (signed negative) back ∙ signed_abs z))
-      (λ t. absurd (omega arith))
-      (size_ways m rule mode negative n))
+      let back : rounded m rule negative n / 2 ^ 64 ≡ nat_abs z = omega arith in
+      let w = size_ways m rule mode negative n in
+      rw (sign_finer z, abs-* z (2 ^ 64)) (grind (arith, ints, signed_abs z))
 
 pub keeps_readings : (m : Meaning) (rule : Rule) (mode : Saturation) → Lawful m → KeepsReadings m rule mode
-keeps_readings m rule mode laws z shown = rw (answered_exact m laws rule mode z shown) (ap (λ k. (m.encode (finite z), k)) (mark_exact z))
+keeps_readings m rule mode laws z shown = rw (answered_exact m laws rule mode z shown) (search rules)
 
 pub keeps_nearest : (m : Meaning) (rule : Rule) (mode : Saturation) → Lawful m → KeepsNearest m rule mode
 keeps_nearest m rule mode laws x most nearest =
@@ -130,136 +94,45 @@ abbrev Inside : Bool → Value → Value → Type 0
 Inside true v w = less v w ≡ false
 Inside false v w = less w v ≡ false
 
-inside_finite : (negative : Bool) (a b : ℕ) → a ≤ b → Inside negative (finite (signed negative a)) (finite (signed negative b))
-inside_finite true a b le = grind (arith, ints)
-inside_finite false a b le = le-ltb b a le
-
-inside_infinite : (negative : Bool) (a : ℕ) → Inside negative (finite (signed negative a)) (infinite negative)
-inside_infinite true a = refl
-inside_infinite false a = refl
-
-inside_same : (negative : Bool) (v : Value) → Inside negative v v
-inside_same true nan = refl
-inside_same true (infinite true) = refl
-inside_same true (infinite false) = refl
-inside_same true (finite z) = not_itself z
-inside_same false nan = refl
-inside_same false (infinite true) = refl
-inside_same false (infinite false) = refl
-inside_same false (finite z) = not_itself z
-
 -- v is zero or has the sign
 abbrev Sided : Bool → Value → Type 0
 Sided negative v = Inside negative (finite (pos 0)) v
 
-sided_finite : (negative : Bool) (n : ℕ) → Sided negative (finite (signed negative n))
-sided_finite true n = inside_finite true 0 n (omega arith)
-sided_finite false n = inside_finite false 0 n (omega arith)
-
-sided_infinite : (negative : Bool) → Sided negative (infinite negative)
-sided_infinite true = refl
-sided_infinite false = refl
-
 across : (v w : Value) → Sided true v → Sided false w → less w v ≡ false
-across nan nan a b = refl
-across nan (infinite t) a b = refl
-across nan (finite y) a b = refl
-across (infinite s) nan a b = refl
-across (infinite true) (infinite true) a b = refl
-across (infinite true) (infinite false) a b = refl
-across (infinite false) (infinite t) a b = absurd (false≢true (sym a))
-across (infinite true) (finite y) a b = refl
-across (infinite false) (finite y) a b = absurd (false≢true (sym a))
-across (finite x) nan a b = refl
-across (finite x) (infinite true) a b = absurd (false≢true (sym b))
-across (finite x) (infinite false) a b = refl
-across (finite x) (finite y) a b = grind (arith, ints)
+across v w a b = search rules
 
 module _ (m : Meaning) (laws : Lawful m) (rule : Rule) (mode : Saturation) where
-  -- the end is inside what a size beyond it is answered, and that is inside what an infinity is answered
-  inside_overflow : (way : Saturation) (negative : Bool) (a : ℕ) → a ≤ m.largest → Inside negative (finite (signed negative a)) (of_overflow m rule way negative)
-  inside_overflow SatFinite negative a le = inside_finite negative a m.largest le
-  inside_overflow SatPropagate negative a le = inside_finite negative a m.largest le
-  inside_overflow OvfInf negative a le =
-      cond_both (rule.overflows negative) (infinite negative) (end m negative) (Inside negative (finite (signed negative a)))
-      (λ e. inside_infinite negative a) (λ e. inside_finite negative a m.largest le)
-
-  inside_infinity : (way : Saturation) (negative : Bool) (a : ℕ) → a ≤ m.largest → Inside negative (finite (signed negative a)) (of_infinity m way negative)
-  inside_infinity SatFinite negative a le = inside_finite negative a m.largest le
-  inside_infinity SatPropagate negative a le = inside_infinite negative a
-  inside_infinity OvfInf negative a le = inside_infinite negative a
-
-  overflow_inside : (way : Saturation) (negative : Bool) → Inside negative (of_overflow m rule way negative) (of_infinity m way negative)
-  overflow_inside SatFinite negative = inside_same negative (end m negative)
-  overflow_inside SatPropagate negative = inside_infinite negative m.largest
-  overflow_inside OvfInf negative =
-      cond_both (rule.overflows negative) (infinite negative) (end m negative) (λ v. Inside negative v (infinite negative))
-      (λ e. inside_same negative (infinite negative)) (λ e. inside_infinite negative m.largest)
-
   size_inside : (negative : Bool) (n : ℕ) → Inside negative (of_size m rule mode negative n) (of_infinity m mode negative)
-  size_inside negative n =
-      ⊎_elim
-      (λ t. rw t.1 (inside_infinity mode negative (rounded m rule negative n / 2 ^ 64) (omega arith)))
-      (λ t. rw t.1 (overflow_inside mode negative))
-      (size_ways m rule mode negative n)
+  size_inside negative n = let w = size_ways m rule mode negative n in search rules
 
   sizes_inside : Monotone rule → (negative : Bool) (n n' : ℕ) → n ≤ n' → Inside negative (of_size m rule mode negative n) (of_size m rule mode negative n')
   sizes_inside mono negative n n' le =
       let rises = rounded_rises m laws rule negative mono n n' le in
-      ⊎_elim
-      (λ t.
-      ⊎_elim
-      (λ u. rw (t.1, u.1) (inside_finite negative (rounded m rule negative n / 2 ^ 64) (rounded m rule negative n' / 2 ^ 64) (omega arith)))
-      (λ u. rw (t.1, u.1) (inside_overflow mode negative (rounded m rule negative n / 2 ^ 64) (omega arith)))
-      (size_ways m rule mode negative n'))
-      (λ t.
-      ⊎_elim
-      (λ u. absurd (omega arith))
-      (λ u. rw (t.1, u.1) (inside_same negative (of_overflow m rule mode negative)))
-      (size_ways m rule mode negative n'))
-      (size_ways m rule mode negative n)
-
-  overflow_sided : (way : Saturation) (negative : Bool) → Sided negative (of_overflow m rule way negative)
-  overflow_sided SatFinite negative = sided_finite negative m.largest
-  overflow_sided SatPropagate negative = sided_finite negative m.largest
-  overflow_sided OvfInf negative =
-      cond_both (rule.overflows negative) (infinite negative) (end m negative) (Sided negative)
-      (λ e. sided_infinite negative) (λ e. sided_finite negative m.largest)
+      let w = size_ways m rule mode negative n in
+      let w' = size_ways m rule mode negative n' in
+      search rules
 
   infinity_sided : (way : Saturation) (negative : Bool) → Sided negative (of_infinity m way negative)
-  infinity_sided SatFinite negative = sided_finite negative m.largest
-  infinity_sided SatPropagate negative = sided_infinite negative
-  infinity_sided OvfInf negative = sided_infinite negative
+  infinity_sided y0 negative = search rules
 
   size_sided : (negative : Bool) (n : ℕ) → Sided negative (of_size m rule mode negative n)
-  size_sided negative n =
-      ⊎_elim
-      (λ t. rw t.1 (sided_finite negative (rounded m rule negative n / 2 ^ 64)))
-      (λ t. rw t.1 (overflow_sided mode negative))
-      (size_ways m rule mode negative n)
+  size_sided negative n = let w = size_ways m rule mode negative n in search rules
 
   answers_ordered : Monotone rule → (x y : Value) → less x y ≡ true → less (answered m rule mode y) (answered m rule mode x) ≡ false
-  answers_ordered mono nan y lt = absurd (false≢true lt)
-  answers_ordered mono (infinite s) nan lt = absurd (false≢true lt)
-  answers_ordered mono (infinite true) (infinite true) lt = absurd (false≢true lt)
-  answers_ordered mono (infinite true) (infinite false) lt =
-      across (of_infinity m mode true) (of_infinity m mode false) (infinity_sided mode true) (infinity_sided mode false)
-  answers_ordered mono (infinite false) (infinite t) lt = absurd (false≢true lt)
-  answers_ordered mono (infinite true) (finite (pos b)) lt =
-      across (of_infinity m mode true) (of_size m rule mode false b) (infinity_sided mode true) (size_sided false b)
+  answers_ordered mono nan y lt = search rules
+  answers_ordered mono (infinite s) nan lt = search rules
+  answers_ordered mono (infinite s) (infinite t) lt = search rules
+  answers_ordered mono (infinite true) (finite (pos b)) lt = search (rules, across, infinity_sided, size_sided, size_inside)
   answers_ordered mono (infinite true) (finite (negsuc b)) lt = size_inside true (suc b)
-  answers_ordered mono (infinite false) (finite y) lt = absurd (false≢true lt)
-  answers_ordered mono (finite x) nan lt = absurd (false≢true lt)
-  answers_ordered mono (finite x) (infinite true) lt = absurd (false≢true lt)
+  answers_ordered mono (infinite false) (finite y) lt = search rules
+  answers_ordered mono (finite x) nan lt = search rules
+  answers_ordered mono (finite x) (infinite true) lt = search rules
   answers_ordered mono (finite (pos a)) (infinite false) lt = size_inside false a
-  answers_ordered mono (finite (negsuc a)) (infinite false) lt =
-      across (of_size m rule mode true (suc a)) (of_infinity m mode false) (size_sided true (suc a)) (infinity_sided mode false)
+  answers_ordered mono (finite (negsuc a)) (infinite false) lt = search (rules, across, infinity_sided, size_sided, size_inside)
   answers_ordered mono (finite (pos a)) (finite (pos b)) lt = sizes_inside mono false a b (omega (arith, ltb-true a b lt))
-  answers_ordered mono (finite (pos a)) (finite (negsuc b)) lt = absurd (false≢true lt)
-  answers_ordered mono (finite (negsuc a)) (finite (pos b)) lt =
-      across (of_size m rule mode true (suc a)) (of_size m rule mode false b) (size_sided true (suc a)) (size_sided false b)
+  answers_ordered mono (finite (pos a)) (finite (negsuc b)) lt = search rules
+  answers_ordered mono (finite (negsuc a)) (finite (pos b)) lt = search (rules, across, infinity_sided, size_sided, size_inside)
   answers_ordered mono (finite (negsuc a)) (finite (negsuc b)) lt = sizes_inside mono true (suc b) (suc a) (omega (arith, ltb-true b a lt))
 
 pub keeps_order : (m : Meaning) (rule : Rule) (mode : Saturation) → Lawful m → Monotone rule → KeepsOrder m rule mode
-keeps_order m rule mode laws monotone x y a b lt =
-    rw (read_back_lem m laws rule mode x, read_back_lem m laws rule mode y) (answers_ordered m laws rule mode monotone x y lt)
+keeps_order m rule mode laws monotone x y a b lt = rw (read_back_lem m laws rule mode x, read_back_lem m laws rule mode y) (answers_ordered m laws rule mode monotone x y lt)

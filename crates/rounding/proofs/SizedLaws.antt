@@ -1,17 +1,17 @@
 -- The rounded size: it is one of the two neighbours, it keeps order, and where the rule is nearest none is nearer.
-use Rattle.std.proofs.Common.{◌≡◌, ℕ, zero, suc, ◌+◌, ◌-◌, ◌*◌, ◌^◌, ◌<◌, ◌≤◌, Bool, true, false, cond, not, ◌&&◌, eqb, ◌⊎◌, refl, subst, inl, inr, ⊎_elim, suc-mul, add-one, arith, pow_pos}
+use Rattle.std.proofs.Common.{◌≡◌, ℕ, ◌+◌, ◌-◌, ◌*◌, ◌^◌, ◌<◌, ◌≤◌, Bool, true, false, cond, not, ◌&&◌, eqb, ◌⊎◌, refl, inl, inr, ⊎_elim, arith, rules, pow_pos}
 use native.Mathlib.Nat.{max-le, le-max_left, le-max_right}
-use lib.Dec.{eqb-suc-zero}
-use Rattle.std.proofs.lemmas.Bool.{cases_lt, cases_order, both_ways, lt-ltb, le-ltb, eq-eqb, ne_eqb}
+use Rattle.std.proofs.lemmas.Bool.{both_ways}
 use Rattle.layout.specs.Digits.{digits}
 use Rattle.layout.specs.Sizes.{bottom, Shaped}
 use Rattle.layout.proofs.DigitLaws.{digits_mono}
 use Rattle.layout.proofs.SizeLaws.{twice}
 use Rattle.formats.specs.Meaning.{Meaning, Lawful}
+use Rattle.sums.specs.Cuts.{remainder_of}
 use Rattle.rounding.specs.Rule.{Rule, Monotone, NearestAt}
-use Rattle.rounding.specs.Projection.{last_place, significand_of, left_of, remainder_of, is_odd, goes_away, rounded}
-use Rattle.rounding.specs.declared.answers.Remainder.{Remainder}
-use Rattle.rounding.specs.declared.answers.Remainder.TheVariants.{BelowHalf, Half, AboveHalf}
+use Rattle.rounding.specs.Projection.{last_place, significand_of, left_of, is_odd, goes_away, rounded}
+use Rattle.sums.specs.declared.magnitude.Remainder.{Remainder}
+use Rattle.sums.specs.declared.magnitude.Remainder.TheVariants.{BelowHalf, Half, AboveHalf}
 use Rattle.rounding.proofs.CellLaws.{Cell, cell_at, cell_order, cell_exact, nothing_between, lower_shaped, upper_shaped, shaped_finer}
 
 -- a size in units of 2^-96 that the precision has
@@ -36,58 +36,35 @@ abbrev Away : Meaning → Rule → Bool → ℕ → Type 0
 Away m rule negative n = (rounded m rule negative n ≡ upper m n) × (0 < left_of m n) × (says m rule negative n ≡ true)
 
 picked : (left s e : ℕ) (a : Bool) → let r = cond (not (eqb left 0) && a) (s + 1) s * 2 ^ e in ((r ≡ s * 2 ^ e) × ((left ≡ 0) ⊎ (a ≡ false))) ⊎ ((r ≡ s * 2 ^ e + 2 ^ e) × (0 < left) × (a ≡ true))
-picked zero s e a = inl (refl, inl refl)
-picked (suc left) s e true = rw (eqb-suc-zero left) (inr (rw (add-one s) (suc-mul s (2 ^ e)), omega arith, refl))
-picked (suc left) s e false = rw (eqb-suc-zero left) (inl (refl, inr refl))
+picked y0 s e a = search rules
 
 pub rounded_ways : (m : Meaning) (rule : Rule) (negative : Bool) (n : ℕ) → Toward m rule negative n ⊎ Away m rule negative n
 unfolding rounded goes_away
-rounded_ways m rule negative n = picked (left_of m n) (significand_of m n) (last_place m n) (says m rule negative n)
+rounded_ways m rule negative n = search rules
 
 pub below_half : (l h : ℕ) → l < h → remainder_of l h ≡ BelowHalf
-below_half l h lt = rw (lt-ltb l h lt) refl
+below_half l h lt = search rules
 
 pub at_half : (l h : ℕ) → l ≡ h → remainder_of l h ≡ Half
-at_half l h e = rw (le-ltb l h (omega arith), eq-eqb l h e) refl
+at_half l h e = search rules
 
 pub above_half : (l h : ℕ) → h < l → remainder_of l h ≡ AboveHalf
-above_half l h lt = rw (le-ltb l h (omega arith), ne_eqb l h (λ e. omega arith)) refl
+above_half l h lt = search rules
 
 module _ (rule : Rule) (negative odd : Bool) where
   -- where the rule is nearest, it says "toward" only up to the half, and "away" only from there
   toward_half : (l h : ℕ) → NearestAt rule negative odd → rule.away negative odd (remainder_of l h) ≡ false → l ≤ h
-  toward_half l h nearest e =
-      ⊎_elim
-      (λ lt. absurd (both_ways (rule.away negative odd AboveHalf) (rw (above_half l h lt) at e) nearest.1))
-      (λ le. le)
-      (cases_lt h l)
+  toward_half l h nearest e = search rules
 
   away_half : (l h : ℕ) → NearestAt rule negative odd → rule.away negative odd (remainder_of l h) ≡ true → h ≤ l
-  away_half l h nearest e =
-      ⊎_elim
-      (λ lt. absurd (both_ways (rule.away negative odd BelowHalf) nearest.0 (rw (below_half l h lt) at e)))
-      (λ le. le)
-      (cases_lt l h)
+  away_half l h nearest e = search rules
 
   from_below : Monotone rule → rule.away negative odd BelowHalf ≡ true → (r : Remainder) → rule.away negative odd r ≡ true
-  from_below mono e BelowHalf = e
-  from_below mono e Half = (mono negative odd).0 e
-  from_below mono e AboveHalf = (mono negative odd).1 ((mono negative odd).0 e)
+  from_below mono e y2 = search rules
 
   -- a larger remainder is never turned back
   away_rises : (l l' h : ℕ) → Monotone rule → l ≤ l' → rule.away negative odd (remainder_of l h) ≡ true → rule.away negative odd (remainder_of l' h) ≡ true
-  away_rises l l' h mono le e =
-      ⊎_elim
-      (λ eq.
-      let half : rule.away negative odd Half ≡ true = rw (at_half l h eq) at e in
-      ⊎_elim
-      (λ lt. rw (above_half l' h lt) ((mono negative odd).1 half))
-      (λ ge. rw (at_half l' h (omega arith)) half)
-      (cases_lt h l'))
-      (⊎_elim
-      (λ lt. from_below mono (rw (below_half l h lt) at e) (remainder_of l' h))
-      (λ lt. rw (above_half l' h (omega arith)) (rw (above_half l h lt) at e)))
-      (cases_order l h)
+  away_rises l l' h mono le e = search rules
 
 place_rises : (m : Meaning) (n n' : ℕ) → n ≤ n' → last_place m n ≤ last_place m n'
 unfolding last_place
@@ -98,7 +75,7 @@ place_rises m n n' le =
 
 module _ (m : Meaning) (laws : Lawful m) where
   precise : 1 ≤ m.precision
-  precise = omega (arith, laws.precise)
+  precise = search rules
 
   place : (n : ℕ) → Cell m.precision (bottom m.least + 64) n (last_place m n) (significand_of m n) (left_of m n)
   unfolding last_place significand_of left_of
@@ -144,11 +121,7 @@ module _ (m : Meaning) (laws : Lawful m) where
     rounded-upper n = ⊎_elim (λ t. omega arith) (λ t. omega arith) (rounded_ways m rule negative n)
 
     says_rises : Monotone rule → (n n' : ℕ) → last_place m n ≡ last_place m n' → significand_of m n ≡ significand_of m n' → left_of m n ≤ left_of m n' → says m rule negative n ≡ true → says m rule negative n' ≡ true
-    says_rises mono n n' e s left away =
-        let l = left_of m n' in
-        subst (λ x. rule.away negative (is_odd x) (remainder_of l (2 ^ (last_place m n' - 1))) ≡ true) s
-        (subst (λ x. rule.away negative (is_odd (significand_of m n)) (remainder_of l (2 ^ (x - 1))) ≡ true) e
-        (away_rises rule negative (is_odd (significand_of m n)) (left_of m n) l (2 ^ (last_place m n - 1)) mono left away))
+    says_rises mono n n' e s left away = search rules
 
     rises_within : Monotone rule → (n n' : ℕ) → last_place m n ≡ last_place m n' → significand_of m n ≡ significand_of m n' → left_of m n ≤ left_of m n' → rounded m rule negative n ≤ rounded m rule negative n'
     rises_within mono n n' e s left =

@@ -1,40 +1,36 @@
 -- Laws of the projection's steps.
-use Rattle.std.proofs.Common.{◌≡◌, ℕ, suc, ◌+◌, ◌-◌, ◌*◌, ◌/◌, ◌%◌, ◌^◌, ◌<◌, ◌≤◌, max, Bool, true, false, cond, not, ◌&&◌, ◌||◌, eqb, List, pos, ◌*ℤ◌, nat_abs, sym, refl, ap, ◌∙◌, subst, ap₂, ⊎_elim, mod-lt, mul_assoc, suc-mul, add-one, arith, pow_pos, pow_mono, pow-add, shr_lt}
+use Rattle.std.proofs.Common.{◌≡◌, ℕ, suc, ◌+◌, ◌-◌, ◌*◌, ◌/◌, ◌%◌, ◌^◌, ◌<◌, ◌≤◌, max, Bool, true, false, cond, not, None, ◌⊎◌, pos, ℤ, ◌*ℤ◌, nat_abs, sym, refl, ap, ◌∙◌, subst, ap₂, ⊎_elim, mod-lt, mul_assoc, suc-mul, add-one, arith, pow_pos, pow_mono, pow-add, shr_lt, rules}
 use native.Mathlib.Nat.{max_comm}
 use lib.Count.{count_leading_zeros}
 use lib.Pow.{split, shl-shr}
 use lib.Signed.{non_neg}
 use mir.Val.{bool_byte}
-use Rattle.std.proofs.lemmas.Nat.{mod-pow-add, leading_top, mul-le}
+use Rattle.std.proofs.lemmas.Nat.{leading_top, mul-le}
 use Rattle.std.proofs.lemmas.Int.{ints}
-use Rattle.std.proofs.lemmas.Bool.{cases_lt, eqb-true, eqb-false, ne_eqb, eq-eqb, not-true, not-false, lt-ltb, le-ltb, or_cases, or_parts, cases_Bool}
+use Rattle.std.specs.Option.{is_some}
+use Rattle.std.proofs.lemmas.Bool.Decides.{nat_tests}
+use Rattle.std.proofs.lemmas.Bool.{cases_lt, lt-ltb, le-ltb}
 use Rattle.layout.specs.Digits.{digits}
 use Rattle.layout.specs.Sizes.{bottom}
 use Rattle.layout.proofs.DigitLaws.{digits_below, pow_order}
 use Rattle.layout.proofs.SizeLaws.{size_aligned}
 use Rattle.formats.specs.Meaning.{Meaning, Lawful, Coded}
 use Rattle.formats.specs.Readings.{fine}
-use Rattle.formats.specs.Value.{Value, nan, infinite, finite, signed, finer}
-use Rattle.formats.specs.ValueLaws.{same_finite, not_infinite, not_nan, signed-*, signed_abs}
+use Rattle.formats.specs.Value.{Value, finite, signed, finer}
+use Rattle.formats.specs.ValueLaws.{signed-*, signed_abs}
 use Rattle.sums.specs.Cuts.{CutAt}
-use Rattle.sums.specs.Sums.{value_of, value, size}
-use Rattle.sums.specs.Words.{twos_complement}
 use Rattle.sums.specs.declared.magnitude.Cut.{Cut}
-use Rattle.sums.specs.declared.sum.Standing.{Standing}
-use Rattle.sums.specs.declared.sum.Standing.TheVariants.{NotANumber, PositiveInfinity, NegativeInfinity, Finite}
-use Rattle.sums.specs.declared.sum.Sum.{Sum}
-use Rattle.rounding.specs.Answers.{Answers, IsPlaced, Settles, inward_mark, outward_mark, cut_mark, cut_away}
-use Rattle.rounding.specs.Laws.{AnswersNearest, NearestFor}
-use Rattle.rounding.specs.Projection.{last_place, significand_of, left_of, remainder_of, is_odd, goes_away, rounded, of_overflow, of_size, answered, projected, mark_of}
-use Rattle.rounding.specs.Rule.{Rule, NearestAt}
+use Rattle.rounding.specs.Answers.{Answers, IsPlaced, Settles, beside, cut_mark, cut_away}
+use Rattle.rounding.specs.Projection.{last_place, significand_of, left_of, goes_away, rounded, of_overflow, of_size, answered, projected, mark_of}
+use Rattle.rounding.specs.Rule.{Rule}
 use Rattle.rounding.specs.declared.answers.Mark.{Mark}
 use Rattle.rounding.specs.declared.answers.Mark.TheVariants.{Exact}
 use Rattle.rounding.specs.declared.answers.Saturation.{Saturation}
 use Rattle.rounding.specs.declared.project.Answer.{Answer}
 use Rattle.rounding.specs.declared.project.Placed.{Placed}
 use Rattle.rounding.proofs.CellLaws.{in_units}
-use Rattle.rounding.proofs.RoundLaws.{size_ways, answered_coded, keeps_nearest}
-use Rattle.rounding.proofs.SizedLaws.{below_half, at_half, above_half, largest_fine, rounded_most, place_some}
+use Rattle.rounding.proofs.RoundLaws.{size_ways, answered_coded}
+use Rattle.rounding.proofs.SizedLaws.{largest_fine, rounded_most, place_some}
 
 -- ±s × 2^e as a finer ±n
 pub reads : (negative : Bool) (s e n k : ℕ) → s * 2 ^ e ≡ n * 2 ^ k → finite (signed negative (s * 2 ^ e)) ≡ finite (signed negative n *ℤ pos (2 ^ k))
@@ -104,11 +100,11 @@ beyond_place s place most h some lt =
 abbrev marked : Bool → ℕ → ℕ → Mark
 marked negative n k = mark_of (finite (signed negative n)) (finite (signed negative k))
 
-mark_inward : (negative : Bool) (n k : ℕ) → k * 2 ^ 64 < n → marked negative n k ≡ inward_mark negative
+mark_inward : (negative : Bool) (n k : ℕ) → k * 2 ^ 64 < n → marked negative n k ≡ beside negative
 mark_inward true n k lt = rw (signed-* true k (2 ^ 64)) (grind (arith, ints))
 mark_inward false n k lt = rw (lt-ltb (k * 2 ^ 64) n lt) refl
 
-mark_outward : (negative : Bool) (n k : ℕ) → n < k * 2 ^ 64 → marked negative n k ≡ outward_mark negative
+mark_outward : (negative : Bool) (n k : ℕ) → n < k * 2 ^ 64 → marked negative n k ≡ beside (not negative)
 mark_outward true n k lt = rw (signed-* true k (2 ^ 64)) (grind (arith, ints))
 mark_outward false n k lt = rw (le-ltb (k * 2 ^ 64) n (omega arith), lt-ltb n (k * 2 ^ 64) lt) refl
 
@@ -116,59 +112,9 @@ mark_exact : (negative : Bool) (n k : ℕ) → n ≡ k * 2 ^ 64 → marked negat
 mark_exact true n k e = rw (signed-* true k (2 ^ 64)) (grind (arith, ints))
 mark_exact false n k e = rw (le-ltb (k * 2 ^ 64) n (omega arith), le-ltb n (k * 2 ^ 64) (omega arith)) refl
 
--- what is left below the cut, by the bit below it and what is left below that
-left_is : (n e : ℕ) → 0 < e → n % 2 ^ e ≡ (n / 2 ^ (e - 1) % 2) * 2 ^ (e - 1) + n % 2 ^ (e - 1)
-left_is n e h = let x : e ≡ 1 + (e - 1) = omega arith in ap (λ y. n % 2 ^ y) x ∙ mod-pow-add n 1 (e - 1)
-
-none_away : (rule : Rule) (negative : Bool) (cut : Cut) → cut.half ≡ false → cut.rest ≡ false → cut_away rule negative cut ≡ false
-none_away rule negative cut h r = rw (h, r) refl
-
-module _ (n e : ℕ) (cut : Cut) (some : 0 < e) (is : CutAt n e cut) where
-  left_low : cut.half ≡ false → n % 2 ^ e ≡ n % 2 ^ (e - 1)
-  left_low h =
-      let z : n / 2 ^ (e - 1) % 2 ≡ 0 = omega (arith, eqb-false (n / 2 ^ (e - 1) % 2) 1 (sym is.half ∙ h)) in
-      omega (arith, left_is n e some, ap (λ x. x * 2 ^ (e - 1)) z)
-
-  left_high : cut.half ≡ true → n % 2 ^ e ≡ 2 ^ (e - 1) + n % 2 ^ (e - 1)
-  left_high h =
-      let z = eqb-true (n / 2 ^ (e - 1) % 2) 1 (sym is.half ∙ h) in
-      omega (arith, left_is n e some, ap (λ x. x * 2 ^ (e - 1)) z)
-
-  rest_none : cut.rest ≡ false → n % 2 ^ (e - 1) ≡ 0
-  rest_none r = eqb-true (n % 2 ^ (e - 1)) 0 (not-false (eqb (n % 2 ^ (e - 1)) 0) (sym is.rest ∙ r))
-
-  rest_some : cut.rest ≡ true → 0 < n % 2 ^ (e - 1)
-  rest_some r = omega (arith, eqb-false (n % 2 ^ (e - 1)) 0 (not-true (eqb (n % 2 ^ (e - 1)) 0) (sym is.rest ∙ r)))
-
-  left_none : cut.half ≡ false → cut.rest ≡ false → n % 2 ^ e ≡ 0
-  left_none h r = left_low h ∙ rest_none r
-
-  left_some : (cut.half || cut.rest) ≡ true → 0 < n % 2 ^ e
-  left_some t =
-      ⊎_elim
-      (λ h. omega (arith, left_high h, pow_pos (e - 1)))
-      (λ r. omega (arith, left_is n e some, rest_some r))
-      (or_cases cut.half cut.rest t)
-
-  -- the rule's word, by the four cases
-  says_left : (rule : Rule) (negative : Bool) → cut_away rule negative cut ≡ (not (eqb (n % 2 ^ e) 0) && rule.away negative (is_odd (n / 2 ^ e)) (remainder_of (n % 2 ^ e) (2 ^ (e - 1))))
-  says_left rule negative =
-      let left = n % 2 ^ e in
-      let unit = 2 ^ (e - 1) in
-      let short : n % unit < unit = mod-lt n (pow_pos (e - 1)) in
-      ⊎_elim
-      (λ h.
-      let some : left ≡ 0 → ⊥ = λ z. omega (arith, left_high h, pow_pos (e - 1)) in
-      ⊎_elim
-      (λ r. rw (h, r, is.digits, ne_eqb left 0 some, above_half left unit (omega (arith, left_high h, rest_some r))) refl)
-      (λ r. rw (h, r, is.digits, ne_eqb left 0 some, at_half left unit (omega (arith, left_high h, rest_none r))) refl)
-      (cases_Bool cut.rest))
-      (λ h.
-      ⊎_elim
-      (λ r. rw (h, r, is.digits, ne_eqb left 0 (λ z. omega (arith, left_low h, rest_some r)), below_half left unit (omega (arith, left_low h))) refl)
-      (λ r. none_away rule negative cut h r ∙ rw (eq-eqb left 0 (left_none h r)) refl)
-      (cases_Bool cut.rest))
-      (cases_Bool cut.half)
+-- nothing is left below the cut, or something is
+left_ways : (n e : ℕ) (cut : Cut) → CutAt n e cut → ((n % 2 ^ e ≡ 0) × (cut.remainder ≡ None)) ⊎ ((0 < n % 2 ^ e) × (is_some cut.remainder ≡ true))
+left_ways n e cut is = rw is.remainder (grind (arith, nat_tests))
 
 picks : (away : Bool) (d : ℕ) → cond away (d + 1) d ≡ d + bool_byte away
 picks true d = refl
@@ -182,12 +128,12 @@ module _ (m : Meaning) (laws : Lawful m) (rule : Rule) (negative : Bool) (n plac
 
   away_is : goes_away m rule negative n ≡ cut_away rule negative cut
   unfolding goes_away left_of significand_of
-  away_is = rw (sym at) (sym (says_left n place cut (omega arith) is rule negative))
+  away_is = rw (sym at, is.remainder, is.digits) (search rules)
 
   size_is : n ≡ cut.digits * 2 ^ place + n % 2 ^ place
   size_is = rw is.digits (sym (split n place))
 
-  by_away : (away : Bool) (s : ℕ) → s ≡ cut.digits + bool_byte away → 0 < n % 2 ^ place → marked negative n (s * 2 ^ (place - 64)) ≡ cond away (outward_mark negative) (inward_mark negative)
+  by_away : (away : Bool) (s : ℕ) → s ≡ cut.digits + bool_byte away → 0 < n % 2 ^ place → marked negative n (s * 2 ^ (place - 64)) ≡ beside (cond away (not negative) negative)
   by_away true s e left =
       let next : s * 2 ^ place ≡ cut.digits * 2 ^ place + 2 ^ place = rw (e, add-one cut.digits) (suc-mul cut.digits (2 ^ place)) in
       let below : n % 2 ^ place < 2 ^ place = mod-lt n (pow_pos place) in
@@ -204,13 +150,12 @@ module _ (m : Meaning) (laws : Lawful m) (rule : Rule) (negative : Bool) (n plac
     mark_is : marked negative n (s * 2 ^ (place - 64)) ≡ cut_mark negative cut away
     mark_is =
         ⊎_elim
-        (λ some. rw some (by_away away s e (left_some n place cut (omega arith) is some)))
         (λ none.
-        let (h, r) = or_parts cut.half cut.rest none in
-        let still : away ≡ false = aw ∙ none_away rule negative cut h r in
+        let still : away ≡ false = aw ∙ rw none.1 refl in
         let same : s * 2 ^ place ≡ cut.digits * 2 ^ place = ap (λ x. x * 2 ^ place) (omega (arith, rw still at e)) in
-        rw none (mark_exact negative n (s * 2 ^ (place - 64)) (omega (arith, in_units s place 64 deep, size_is, left_none n place cut (omega arith) is h r))))
-        (cases_Bool (cut.half || cut.rest))
+        rw none.1 (mark_exact negative n (s * 2 ^ (place - 64)) (omega (arith, in_units s place 64 deep, size_is))))
+        (λ some. rw some.1 (by_away away s e some.0))
+        (left_ways n place cut is)
 
     pub settled : (mode : Saturation) (a : Answer) → s * 2 ^ place ≤ m.largest * 2 ^ 64 → fine a.reading ≡ finite (signed negative (s * 2 ^ (place + 32))) → a.mark ≡ cut_mark negative cut away → Answers (finite (signed negative n)) (of_size m rule mode negative n) a
     settled mode a most reading mark =
@@ -239,27 +184,10 @@ pub projected_is : (m : Meaning) (rule : Rule) (mode : Saturation) (x : Value) (
 projected_is m rule mode x a code laws is coded =
     ap₂ (λ c k. (c, k)) (coded (answered m rule mode x) (sym is.reading) (answered_coded m laws rule mode x)) is.mark
 
--- the answer for a finite sum is that for its sign and its size
-pub sum_answers : (m : Meaning) (rule : Rule) (mode : Saturation) (sum : Sum) (p : Placed) (a : Answer) → sum.standing ≡ Finite → IsPlaced m sum p → Settles m rule mode p a → Answers (value sum) (answered m rule mode (value sum)) a
-sum_answers m rule mode sum p a stands is settles =
-    let x = twos_complement sum.words in
-    let v : value sum ≡ finite x = ap (λ t. value_of t sum.words) stands in
-    rw v
+-- the answer for a finite value is that for its sign and its size
+pub finite_answers : (m : Meaning) (rule : Rule) (mode : Saturation) (v : Value) (x : ℤ) (p : Placed) (a : Answer) → v ≡ finite x → IsPlaced m v p → Settles m rule mode p a → Answers v (answered m rule mode v) a
+finite_answers m rule mode v x p a e is settles =
+    let placed : IsPlaced m (finite x) p = rw e at is in
+    rw e
     (subst (λ y. Answers (finite y) (of_size m rule mode (not (non_neg x)) (nat_abs x)) a) (signed_abs x)
-    (subst (λ y. Answers (finite (signed y (nat_abs x))) (of_size m rule mode y (nat_abs x)) a) is.negative (settles (nat_abs x) is.place is.cut)))
-
--- a sum that is not finite has no nearest reading to show
-nearest_at : (m : Meaning) (rule : Rule) (mode : Saturation) → Lawful m → (t : Standing) (ws : List ℕ) → let x = twos_complement ws in NearestAt rule (not (non_neg x)) (is_odd (significand_of m (nat_abs x))) → NearestFor m rule mode (value_of t ws)
-nearest_at m rule mode laws NotANumber ws nearest x e = absurd (not_nan nan x refl e)
-nearest_at m rule mode laws PositiveInfinity ws nearest x e = absurd (not_infinite (infinite false) false x refl e)
-nearest_at m rule mode laws NegativeInfinity ws nearest x e = absurd (not_infinite (infinite true) true x refl e)
-nearest_at m rule mode laws Finite ws nearest x e =
-    subst (λ y. nat_abs y ≤ m.largest * 2 ^ 64 → AnswersNearest m rule mode y) (same_finite _ _ _ refl e)
-    (λ most. keeps_nearest m rule mode laws (twos_complement ws) most nearest)
-
-pub sum_nearest : (m : Meaning) (rule : Rule) (mode : Saturation) (sum : Sum) (p : Placed) → Lawful m → IsPlaced m sum p → NearestAt rule p.negative (is_odd p.cut.digits) → NearestFor m rule mode (value sum)
-sum_nearest m rule mode sum p laws is nearest =
-    let digits : significand_of m (size sum) ≡ p.cut.digits = digits_are m laws rule p.negative (size sum) p.place p.cut is.deep is.place is.cut in
-    nearest_at m rule mode laws sum.standing sum.words
-    (subst (λ y. NearestAt rule y (is_odd (significand_of m (size sum)))) is.negative
-    (subst (λ d. NearestAt rule p.negative (is_odd d)) (sym digits) nearest))
+    (subst (λ y. Answers (finite (signed y (nat_abs x))) (of_size m rule mode y (nat_abs x)) a) placed.negative (settles (nat_abs x) placed.place placed.cut)))

@@ -1,17 +1,16 @@
 -- What the steps of the projection answer.
-use Rattle.std.specs.Prelude.{◌≡◌, ℕ, ◌^◌, ◌<◌, ◌≤◌, Bool, false, cond, ◌||◌}
+use Rattle.std.specs.Prelude.{◌≡◌, ℕ, ◌^◌, ◌<◌, ◌≤◌, Bool, false, not, cond, Some, None}
+use Rattle.std.specs.Option.{is_some}
 use Rattle.formats.specs.Meaning.{Meaning}
 use Rattle.formats.specs.Readings.{fine}
 use Rattle.formats.specs.Value.{Value, finite, signed, finer}
 use Rattle.sums.specs.Cuts.{CutAt}
-use Rattle.sums.specs.Sums.{size, is_below_zero}
+use Rattle.sums.specs.Sums.{size_of, below_zero}
 use Rattle.sums.specs.declared.magnitude.Cut.{Cut}
-use Rattle.sums.specs.declared.sum.Sum.{Sum}
 use Rattle.rounding.specs.Projection.{last_place, is_odd, of_size, mark_of}
 use Rattle.rounding.specs.Rule.{Rule}
 use Rattle.rounding.specs.declared.answers.Mark.{Mark}
 use Rattle.rounding.specs.declared.answers.Mark.TheVariants.{Exact, Low, High}
-use Rattle.rounding.specs.declared.answers.Remainder.TheVariants.{BelowHalf, Half, AboveHalf}
 use Rattle.rounding.specs.declared.answers.Saturation.{Saturation}
 use Rattle.rounding.specs.declared.project.Answer.{Answer}
 use Rattle.rounding.specs.declared.project.Placed.{Placed}
@@ -21,28 +20,23 @@ pub record Answers (x v : Value) (a : Answer) : Type 0 where
   pub reading : fine a.reading ≡ finer 96 v
   pub mark : a.mark ≡ mark_of x v
 
--- the mark of a reading nearer to zero than the value, and of one farther from it
-abbrev pub inward_mark : Bool → Mark
-inward_mark negative = cond negative High Low
-
-abbrev pub outward_mark : Bool → Mark
-outward_mark negative = cond negative Low High
+-- the mark of a reading above the value, and of one below it
+abbrev pub beside : Bool → Mark
+beside above = cond above High Low
 
 -- the mark of a number cut at a bit, which goes to the next one away from zero or not
 abbrev pub cut_mark : Bool → Cut → Bool → Mark
-cut_mark negative cut away = cond (cut.half || cut.rest) (cond away (outward_mark negative) (inward_mark negative)) Exact
+cut_mark negative cut away = cond (is_some cut.remainder) (beside (cond away (not negative) negative)) Exact
 
 -- whether a number cut at a bit goes to the next one away from zero
 abbrev pub cut_away : Rule → Bool → Cut → Bool
-cut_away rule negative cut =
-    let says = rule.away negative (is_odd cut.digits) in
-    cond cut.half (cond cut.rest (says AboveHalf) (says Half)) (cond cut.rest (says BelowHalf) false)
+cut_away rule negative cut = elim cut.remainder [ None ↦ false | Some left ↦ rule.away negative (is_odd cut.digits) left ]
 
--- the sign of the sum, and its size cut at the last place
-pub record IsPlaced (m : Meaning) (sum : Sum) (p : Placed) : Type 0 where
-  pub negative : p.negative ≡ is_below_zero sum
-  pub place : p.place ≡ last_place m (size sum)
-  pub cut : CutAt (size sum) p.place p.cut
+-- the sign of a finite value, and its size cut at the last place
+pub record IsPlaced (m : Meaning) (v : Value) (p : Placed) : Type 0 where
+  pub negative : p.negative ≡ below_zero v
+  pub place : p.place ≡ last_place m (size_of v)
+  pub cut : CutAt (size_of v) p.place p.cut
   pub deep : 64 ≤ p.place
   pub short : p.cut.digits < 2 ^ 12
 

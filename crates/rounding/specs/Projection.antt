@@ -1,15 +1,14 @@
 -- The projection of an exact value, in units of 2^-96, into a format.
-use Rattle.std.specs.Prelude.{◌≡◌, ℕ, ◌+◌, ◌-◌, ◌*◌, ◌/◌, ◌%◌, ◌^◌, max, Bool, true, false, cond, not, ◌&&◌, ℤ, ◌==◌, nat_le, nat_lt, unsigned_abs}
+use Rattle.std.specs.Prelude.{ℕ, ◌+◌, ◌-◌, ◌*◌, ◌/◌, ◌%◌, ◌^◌, max, Bool, cond, not, ◌&&◌, ◌==◌, nat_le, unsigned_abs}
 use Rattle.std.specs.Int.Signed.{non_neg}
 use Rattle.layout.specs.Digits.{digits}
 use Rattle.layout.specs.Sizes.{bottom}
 use Rattle.formats.specs.Meaning.{Meaning}
 use Rattle.formats.specs.Value.{Value, nan, infinite, finite, is_nan, signed, finer, less}
+use Rattle.sums.specs.Cuts.{remainder_of}
 use Rattle.rounding.specs.Rule.{Rule}
 use Rattle.rounding.specs.declared.answers.Mark.{Mark}
 use Rattle.rounding.specs.declared.answers.Mark.TheVariants.{Exact, Low, High, Unordered}
-use Rattle.rounding.specs.declared.answers.Remainder.{Remainder}
-use Rattle.rounding.specs.declared.answers.Remainder.TheVariants.{BelowHalf, Half, AboveHalf}
 use Rattle.rounding.specs.declared.answers.Saturation.{Saturation}
 use Rattle.rounding.specs.declared.answers.Saturation.TheVariants.{SatFinite, SatPropagate, OvfInf}
 
@@ -23,9 +22,6 @@ significand_of m n = n / 2 ^ last_place m n
 
 unfoldable pub left_of : Meaning → ℕ → ℕ
 left_of m n = n % 2 ^ last_place m n
-
-abbrev pub remainder_of : ℕ → ℕ → Remainder
-remainder_of left half = cond (nat_lt left half) BelowHalf (cond (left == half) Half AboveHalf)
 
 abbrev pub is_odd : ℕ → Bool
 is_odd n = n % 2 == 1

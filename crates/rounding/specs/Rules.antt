@@ -1,8 +1,8 @@
 -- The rounding rules by their tables, and their bytes.
 use Rattle.std.specs.Prelude.{◌≡◌, ℕ, ◌≤◌, Bool, true, false, not, Some, None, Option}
 use Rattle.rounding.specs.Rule.{Rule}
-use Rattle.rounding.specs.declared.answers.Remainder.{Remainder}
-use Rattle.rounding.specs.declared.answers.Remainder.TheVariants.{BelowHalf, Half, AboveHalf}
+use Rattle.sums.specs.declared.magnitude.Remainder.{Remainder}
+use Rattle.sums.specs.declared.magnitude.Remainder.TheVariants.{BelowHalf, Half, AboveHalf}
 use Rattle.rounding.specs.declared.answers.Saturation.{Saturation}
 use Rattle.rounding.specs.declared.answers.Saturation.TheVariants.{SatFinite, SatPropagate, OvfInf}
 use Rattle.rounding.specs.declared.rules.AnyRule.{AnyRule}
@@ -11,13 +11,19 @@ use Rattle.rounding.specs.declared.rules.AnyRule.TheVariants.{TiesToEven, TiesTo
 abbrev rule : (Bool → Bool → Remainder → Bool) → (Bool → Bool) → Rule
 rule away overflows = record { away = away; overflows = overflows }
 
+-- "toward" below the half, "away" above it, and a word at the half
+abbrev pub nearer : Remainder → Bool → Bool
+nearer BelowHalf at_half = false
+nearer Half at_half = at_half
+nearer AboveHalf at_half = true
+
 -- 0: to the nearer, at the half to the even one; to infinity
 abbrev pub ties_to_even : Rule
-ties_to_even = rule (λ negative odd r. elim r [ BelowHalf ↦ false | Half ↦ odd | AboveHalf ↦ true ]) (λ negative. true)
+ties_to_even = rule (λ negative odd r. nearer r odd) (λ negative. true)
 
 -- 1: to the nearer, at the half away from zero; to infinity
 abbrev pub ties_to_away : Rule
-ties_to_away = rule (λ negative odd r. elim r [ BelowHalf ↦ false | Half ↦ true | AboveHalf ↦ true ]) (λ negative. true)
+ties_to_away = rule (λ negative odd r. nearer r true) (λ negative. true)
 
 -- 2: away and to infinity for the positive sign only
 abbrev pub toward_positive : Rule

@@ -1,12 +1,6 @@
 // The words that rounding speaks of.
 
-// What is left below the last place, where something is left.
-#[derive(Clone, Copy, PartialEq, Eq)]
-pub enum Remainder {
-    BelowHalf,
-    Half,
-    AboveHalf,
-}
+pub use sums::magnitude::Remainder;
 
 // How the answered reading lies to the exact value.
 #[derive(Clone, Copy, PartialEq, Eq)]

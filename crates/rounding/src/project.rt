@@ -3,19 +3,45 @@ ghost use Rattle.std.specs.Prelude.{◌≡◌, ℕ, ◌+◌, ◌*◌, ◌^◌, �
 ghost use Rattle.formats.specs.Meaning.{Coded};
 ghost use Rattle.formats.specs.Readings.{fine};
 ghost use Rattle.formats.specs.Value.{Value, infinite, finite, signed, finer};
-ghost use Rattle.sums.specs.Sums.{value, Sound};
-ghost use Rattle.sums.specs.Words.{number, Eight};
-ghost use Rattle.rounding.specs.Answers.{Answers, IsPlaced, Settles, inward_mark, outward_mark, cut_mark, cut_away};
+ghost use Rattle.sums.specs.Sums.{value};
+ghost use Rattle.sums.specs.Words.{number};
+ghost use Rattle.rounding.specs.Answers.{Answers, IsPlaced, Settles, beside, cut_mark, cut_away};
 ghost use Rattle.rounding.specs.Laws.{KeepsOrder, KeepsReadings, NearestFor};
-ghost use Rattle.rounding.specs.Projection.{last_place, is_odd, end, of_infinity, of_overflow, answered, projected};
-ghost use Rattle.rounding.specs.Rule.{NearestAt};
+ghost use Rattle.rounding.specs.Projection.{last_place, end, of_infinity, of_overflow, answered, projected};
+ghost use Rattle.rounding.specs.Rule.{Nearest};
 
-use crate::answers::{Mark, Remainder, Saturation};
-use crate::rule::{NearestRule, RoundingRule};
+use crate::answers::{Mark, Saturation};
+use crate::rule::RoundingRule;
 use formats::format::Format;
 use formats::reading::{Dyadic, Reading};
 use sums::magnitude::{Cut, Magnitude};
-use sums::sum::{Standing, Sum};
+use sums::sum::Sum;
+
+// The code and the mark of the sum's projection into the format. Where the rule goes to the nearer
+// neighbour and the sum is within the finite ends, no reading of the format is nearer.
+pub fn project<F: Format, R: RoundingRule>(
+    format: &F,
+    rule: &R,
+    mode: Saturation,
+    sum: &Sum,
+) -> (u16, Mark)
+    ensures projected { result ≡ projected (F.Format.meaning format.now) (R.RoundingRule.table rule.now) mode (value sum.now) }
+    ensures order { KeepsOrder (F.Format.meaning format.now) (R.RoundingRule.table rule.now) mode }
+    ensures readings { KeepsReadings (F.Format.meaning format.now) (R.RoundingRule.table rule.now) mode }
+    ensures nearest { Nearest (R.RoundingRule.table rule.now) → NearestFor (F.Format.meaning format.now) (R.RoundingRule.table rule.now) mode (value sum.now) }
+{
+    let target = Target { format, rule, mode };
+    let answer = target.answer(sum);
+    (target.code(answer.reading), answer.mark)
+}
+
+// Where a value is rounded to, and how.
+#[derive(Clone, Copy)]
+struct Target<'a, F, R> {
+    format: &'a F,
+    rule: &'a R,
+    mode: Saturation,
+}
 
 // The sign and the size of a sum, which is cut at the place of the last digit, counted from 2^-96.
 #[derive(Clone, Copy)]
@@ -32,117 +58,148 @@ pub(crate) struct Answer {
     pub(crate) mark: Mark,
 }
 
-// The code and the mark of the sum's projection into the format.
-pub fn project<F: Format, R: RoundingRule>(
-    format: &F,
-    rule: &R,
-    mode: Saturation,
-    sum: &Sum,
-) -> (u16, Mark)
-    requires { Sound sum.now }
-    ensures projected { result ≡ projected (F.Format.meaning format.now) (R.RoundingRule.table rule.now) mode (value sum.now) }
-    ensures order { KeepsOrder (F.Format.meaning format.now) (R.RoundingRule.table rule.now) mode }
-    ensures readings { KeepsReadings (F.Format.meaning format.now) (R.RoundingRule.table rule.now) mode }
-{
-    let size = size_of(format, sum);
-    let away = goes_away(rule, size.negative, &size.cut);
-    finish(format, rule, mode, sum, &size, away)
-}
+impl<F: Format, R: RoundingRule> Target<'_, F, R> {
+    // The code of a reading that the format has.
+    fn code(&self, reading: Reading) -> u16
+        ensures { (v : Value) → finer 96 v ≡ fine reading → Coded (F.Format.meaning self.now.format.now) v → result ≡ (F.Format.meaning self.now.format.now).encode v }
+    {
+        self.format.encode(reading).unwrap_or(0)
+    }
 
-// The same for a rule that goes to the nearer neighbour: within the finite ends, no reading of the
-// format is nearer than the one that is answered.
-pub fn project_nearest<F: Format, R: NearestRule>(
-    format: &F,
-    rule: &R,
-    mode: Saturation,
-    sum: &Sum,
-) -> (u16, Mark)
-    requires { Sound sum.now }
-    ensures projected { result ≡ projected (F.Format.meaning format.now) (R.RoundingRule.table rule.now) mode (value sum.now) }
-    ensures nearest { NearestFor (F.Format.meaning format.now) (R.RoundingRule.table rule.now) mode (value sum.now) }
-{
-    let size = size_of(format, sum);
-    let away = nearest_away(rule, size.negative, &size.cut);
-    finish(format, rule, mode, sum, &size, away)
-}
+    fn answer(&self, sum: &Sum) -> Answer
+        ensures { Answers (value sum.now) (answered (F.Format.meaning self.now.format.now) (R.RoundingRule.table self.now.rule.now) self.now.mode (value sum.now)) result }
+    {
+        match sum {
+            Sum::NotANumber => Answer {
+                reading: Reading::Nan,
+                mark: Mark::Unordered,
+            },
+            Sum::PositiveInfinity => self.of_infinity(false),
+            Sum::NegativeInfinity => self.of_infinity(true),
+            Sum::Finite(_) => self.of_size(&self.placed(sum)),
+        }
+    }
 
-// The code and the mark for a sum whose size goes away from zero or not.
-fn finish<F: Format, R: RoundingRule>(
-    format: &F,
-    rule: &R,
-    mode: Saturation,
-    sum: &Sum,
-    size: &Placed,
-    away: bool,
-) -> (u16, Mark)
-    requires size { IsPlaced (F.Format.meaning format.now) sum.now size.now }
-    requires away { away ≡ cut_away (R.RoundingRule.table rule.now) size.now.negative size.now.cut }
-    ensures projected { result ≡ projected (F.Format.meaning format.now) (R.RoundingRule.table rule.now) mode (value sum.now) }
-    ensures order { KeepsOrder (F.Format.meaning format.now) (R.RoundingRule.table rule.now) mode }
-    ensures readings { KeepsReadings (F.Format.meaning format.now) (R.RoundingRule.table rule.now) mode }
-    ensures nearest { NearestAt (R.RoundingRule.table rule.now) size.now.negative (is_odd size.now.cut.digits) → NearestFor (F.Format.meaning format.now) (R.RoundingRule.table rule.now) mode (value sum.now) }
-{
-    let answer = answer_for(format, rule, mode, sum, size, away);
-    (code(format, answer.reading), answer.mark)
-}
+    fn of_infinity(&self, negative: bool) -> Answer
+        ensures { Answers (infinite negative) (of_infinity (F.Format.meaning self.now.format.now) self.now.mode negative) result }
+    {
+        match self.mode {
+            Saturation::SatFinite => Answer {
+                reading: self.end(negative),
+                mark: beside(negative),
+            },
+            _ => Answer {
+                reading: infinity(negative),
+                mark: Mark::Exact,
+            },
+        }
+    }
 
-// The code of a reading that the format has.
-fn code<F: Format>(format: &F, reading: Reading) -> u16
-    ensures { (v : Value) → finer 96 v ≡ fine reading → Coded (F.Format.meaning format.now) v → result ≡ (F.Format.meaning format.now).encode v }
-{
-    format.encode(reading).unwrap_or(0)
-}
+    // The answer for a finite value that is so cut at its last place.
+    fn of_size(&self, size: &Placed) -> Answer
+        requires { (64 ≤ size.now.place) × (size.now.cut.digits < 2 ^ 12) }
+        ensures { Settles (F.Format.meaning self.now.format.now) (R.RoundingRule.table self.now.rule.now) self.now.mode size.now result }
+    {
+        let away = self.goes_away(size);
+        let significand = size.cut.digits + u32::from(away);
+        if self.within(significand, size.place) {
+            Answer {
+                reading: finite(size.negative, significand, size.place),
+                mark: size.mark(away),
+            }
+        } else {
+            self.of_overflow(size.negative)
+        }
+    }
 
-fn answer_for<F: Format, R: RoundingRule>(
-    format: &F,
-    rule: &R,
-    mode: Saturation,
-    sum: &Sum,
-    size: &Placed,
-    away: bool,
-) -> Answer
-    requires size { IsPlaced (F.Format.meaning format.now) sum.now size.now }
-    requires away { away ≡ cut_away (R.RoundingRule.table rule.now) size.now.negative size.now.cut }
-    ensures { Answers (value sum.now) (answered (F.Format.meaning format.now) (R.RoundingRule.table rule.now) mode (value sum.now)) result }
-{
-    match sum.standing {
-        Standing::NotANumber => Answer {
-            reading: Reading::Nan,
-            mark: Mark::Unordered,
-        },
-        Standing::PositiveInfinity => of_infinity(format, mode, false),
-        Standing::NegativeInfinity => of_infinity(format, mode, true),
-        Standing::Finite => of_size(format, rule, mode, size, away),
+    // The answer for a finite value beyond the finite end.
+    fn of_overflow(&self, negative: bool) -> Answer
+        ensures { (n : ℕ) → (F.Format.meaning self.now.format.now).largest * 2 ^ 64 < n → Answers (finite (signed negative n)) (of_overflow (F.Format.meaning self.now.format.now) (R.RoundingRule.table self.now.rule.now) self.now.mode negative) result }
+    {
+        if self.mode == Saturation::OvfInf && self.rule.overflows_to_infinity(negative) {
+            Answer {
+                reading: infinity(negative),
+                mark: beside(!negative),
+            }
+        } else {
+            Answer {
+                reading: self.end(negative),
+                mark: beside(negative),
+            }
+        }
+    }
+
+    // Whether the rule goes away from zero, where anything is left below the cut.
+    fn goes_away(&self, size: &Placed) -> bool
+        ensures { result ≡ cut_away (R.RoundingRule.table self.now.rule.now) size.now.negative size.now.cut }
+    {
+        let odd = size.cut.digits % 2 == 1;
+        size.cut
+            .remainder
+            .is_some_and(|left| self.rule.goes_away(size.negative, odd, left))
+    }
+
+    // The sign and the size of the sum, cut at its last place.
+    fn placed(&self, sum: &Sum) -> Placed
+        ensures { IsPlaced (F.Format.meaning self.now.format.now) (value sum.now) result }
+    {
+        let size = sum.magnitude();
+        let place = self.last_place(&size);
+        Placed {
+            negative: sum.is_negative(),
+            place,
+            cut: size.cut(place),
+        }
+    }
+
+    // The place of the last digit, counted from 2^-96: the greater of the least exponent and that which
+    // leaves `precision` digits.
+    fn last_place(&self, size: &Magnitude) -> u32
+        ensures place { result ≡ last_place (F.Format.meaning self.now.format.now) (number size.now.words) }
+        ensures bounds { (64 ≤ result) × (result < 256) }
+        ensures fits { number size.now.words < 2 ^ (12 + result) }
+    {
+        let shape = self.format.shape();
+        let least = (i32::from(shape.least_exponent) + 96).unsigned_abs();
+        let full = size.bit_length().saturating_sub(u32::from(shape.precision));
+        full.max(least)
+    }
+
+    // Whether significand × 2^(place - 96) is not beyond the finite end.
+    fn within(&self, significand: u32, place: u32) -> bool
+        requires { (64 ≤ place) × (significand ≤ 2 ^ 12) }
+        ensures within { result ≡ true → (place < 128) × (significand * 2 ^ place ≤ (F.Format.meaning self.now.format.now).largest * 2 ^ 64) }
+        ensures beyond { result ≡ false → (128 ≤ place → 0 < significand) → (F.Format.meaning self.now.format.now).largest * 2 ^ 64 < significand * 2 ^ place }
+    {
+        let largest = u128::from(self.format.shape().largest);
+        place < 128 && u128::from(significand) << (place - 64) <= largest
+    }
+
+    // The largest finite value with a sign.
+    fn end(&self, negative: bool) -> Reading
+        ensures { fine result ≡ finer 96 (end (F.Format.meaning self.now.format.now) negative) }
+    {
+        let shape = self.format.shape();
+        let digits = 64 - shape.largest.leading_zeros();
+        let shift = digits.saturating_sub(u32::from(shape.precision));
+        Reading::Finite(Dyadic {
+            negative,
+            significand: (shape.largest >> shift) as u16,
+            exponent: shift as i8 - 32,
+        })
     }
 }
 
-fn of_infinity<F: Format>(format: &F, mode: Saturation, negative: bool) -> Answer
-    ensures { Answers (infinite negative) (of_infinity (F.Format.meaning format.now) mode negative) result }
-{
-    match mode {
-        Saturation::SatFinite => Answer {
-            reading: end(format, negative),
-            mark: inward(negative),
-        },
-        _ => Answer {
-            reading: infinity(negative),
-            mark: Mark::Exact,
-        },
+impl Placed {
+    // The mark of a finite answer, which goes away from zero or not.
+    fn mark(&self, away: bool) -> Mark
+        ensures { result ≡ cut_mark self.now.negative self.now.cut away }
+    {
+        match self.cut.remainder {
+            None => Mark::Exact,
+            Some(_) => beside(self.negative != away),
+        }
     }
-}
-
-// The mark of an answer nearer to zero than the value.
-fn inward(negative: bool) -> Mark
-    ensures { result ≡ inward_mark negative }
-{
-    if negative { Mark::High } else { Mark::Low }
-}
-
-// The mark of an answer farther from zero than the value.
-fn outward(negative: bool) -> Mark
-    ensures { result ≡ outward_mark negative }
-{
-    if negative { Mark::Low } else { Mark::High }
 }
 
 fn infinity(negative: bool) -> Reading
@@ -155,102 +212,6 @@ fn infinity(negative: bool) -> Reading
     }
 }
 
-// The largest finite value with a sign.
-fn end<F: Format>(format: &F, negative: bool) -> Reading
-    ensures { fine result ≡ finer 96 (end (F.Format.meaning format.now) negative) }
-{
-    let shape = format.shape();
-    let digits = 64 - shape.largest.leading_zeros();
-    let shift = digits.saturating_sub(u32::from(shape.precision));
-    Reading::Finite(Dyadic {
-        negative,
-        significand: (shape.largest >> shift) as u16,
-        exponent: shift as i8 - 32,
-    })
-}
-
-// The sign and the size of the sum; a sum that is not finite has the size zero.
-fn size_of<F: Format>(format: &F, sum: &Sum) -> Placed
-    requires { Sound sum.now }
-    ensures { IsPlaced (F.Format.meaning format.now) sum.now result }
-{
-    let size = sum.magnitude();
-    let place = last_place(format, &size);
-    Placed {
-        negative: sum.is_negative(),
-        place,
-        cut: size.cut(place),
-    }
-}
-
-// The place of the last digit, counted from 2^-96: the greater of the least exponent and that which
-// leaves `precision` digits.
-fn last_place<F: Format>(format: &F, size: &Magnitude) -> u32
-    requires { Eight size.now.words }
-    ensures place { result ≡ last_place (F.Format.meaning format.now) (number size.now.words) }
-    ensures bounds { (64 ≤ result) × (result < 256) }
-    ensures fits { number size.now.words < 2 ^ (12 + result) }
-{
-    let shape = format.shape();
-    let least = (i16::from(shape.least_exponent) + 96).unsigned_abs();
-    let full = size.bit_length().saturating_sub(u32::from(shape.precision));
-    full.max(u32::from(least))
-}
-
-// Whether the rule goes away from zero, where anything is left below the cut.
-fn goes_away<R: RoundingRule>(rule: &R, negative: bool, cut: &Cut) -> bool
-    ensures { result ≡ cut_away (R.RoundingRule.table rule.now) negative cut.now }
-{
-    let odd = cut.digits % 2 == 1;
-    match (cut.half, cut.rest) {
-        (false, false) => false,
-        (false, true) => rule.goes_away(negative, odd, Remainder::BelowHalf),
-        (true, false) => rule.goes_away(negative, odd, Remainder::Half),
-        (true, true) => rule.goes_away(negative, odd, Remainder::AboveHalf),
-    }
-}
-
-// The same for a rule that goes to the nearer neighbour, by its word at the half.
-fn nearest_away<R: NearestRule>(rule: &R, negative: bool, cut: &Cut) -> bool
-    ensures away { result ≡ cut_away (R.RoundingRule.table rule.now) negative cut.now }
-    ensures nearest { NearestAt (R.RoundingRule.table rule.now) negative (is_odd cut.now.digits) }
-{
-    let at_half = rule.at_half(negative, cut.digits % 2 == 1);
-    cut.half && (cut.rest || at_half)
-}
-
-// The answer for a size that goes away from zero or not.
-fn of_size<F: Format, R: RoundingRule>(
-    format: &F,
-    rule: &R,
-    mode: Saturation,
-    size: &Placed,
-    away: bool,
-) -> Answer
-    requires size { (64 ≤ size.now.place) × (size.now.cut.digits < 2 ^ 12) }
-    requires away { away ≡ cut_away (R.RoundingRule.table rule.now) size.now.negative size.now.cut }
-    ensures { Settles (F.Format.meaning format.now) (R.RoundingRule.table rule.now) mode size.now result }
-{
-    let significand = size.cut.digits + u32::from(away);
-    if within(format, significand, size.place) {
-        Answer {
-            reading: finite(size.negative, significand, size.place),
-            mark: mark(size.negative, &size.cut, away),
-        }
-    } else {
-        of_overflow(format, rule, mode, size.negative)
-    }
-}
-
-// Whether significand × 2^(place - 96) is not beyond the finite end.
-fn within<F: Format>(format: &F, significand: u32, place: u32) -> bool
-    requires { (64 ≤ place) × (significand ≤ 2 ^ 12) }
-    ensures within { result ≡ true → (place < 128) × (significand * 2 ^ place ≤ (F.Format.meaning format.now).largest * 2 ^ 64) }
-    ensures beyond { result ≡ false → (128 ≤ place → 0 < significand) → (F.Format.meaning format.now).largest * 2 ^ 64 < significand * 2 ^ place }
-{
-    place < 128 && u128::from(significand) << (place - 64) <= u128::from(format.shape().largest)
-}
-
 // The reading of ±significand × 2^(place - 96).
 fn finite(negative: bool, significand: u32, place: u32) -> Reading
     requires { (significand ≤ 2 ^ 12) × ((64 ≤ place) × (place < 128)) }
@@ -259,45 +220,13 @@ fn finite(negative: bool, significand: u32, place: u32) -> Reading
     Reading::Finite(Dyadic {
         negative,
         significand: significand as u16,
-        exponent: (place as i16 - 96) as i8,
+        exponent: place as i8 - 96,
     })
 }
 
-// The mark of a finite answer.
-fn mark(negative: bool, cut: &Cut, away: bool) -> Mark
-    ensures { result ≡ cut_mark negative cut.now away }
+// The mark of an answer above the value, or of one below it.
+fn beside(above: bool) -> Mark
+    ensures { result ≡ beside above }
 {
-    if !cut.half && !cut.rest {
-        Mark::Exact
-    } else if away {
-        outward(negative)
-    } else {
-        inward(negative)
-    }
-}
-
-// The answer for a finite value beyond the finite end.
-fn of_overflow<F: Format, R: RoundingRule>(
-    format: &F,
-    rule: &R,
-    mode: Saturation,
-    negative: bool,
-) -> Answer
-    ensures { (n : ℕ) → (F.Format.meaning format.now).largest * 2 ^ 64 < n → Answers (finite (signed negative n)) (of_overflow (F.Format.meaning format.now) (R.RoundingRule.table rule.now) mode negative) result }
-{
-    let infinite = match mode {
-        Saturation::OvfInf => rule.overflows_to_infinity(negative),
-        _ => false,
-    };
-    if infinite {
-        Answer {
-            reading: infinity(negative),
-            mark: outward(negative),
-        }
-    } else {
-        Answer {
-            reading: end(format, negative),
-            mark: inward(negative),
-        }
-    }
+    if above { Mark::High } else { Mark::Low }
 }

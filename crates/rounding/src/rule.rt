@@ -1,7 +1,6 @@
 // The interface that every rounding rule implements.
-ghost use Rattle.std.specs.Prelude.{◌≡◌, Bool, true, false};
-ghost use Rattle.rounding.specs.Rule.{Rule, Monotone};
-ghost use Rattle.rounding.specs.declared.answers.Remainder.TheVariants.{BelowHalf, Half, AboveHalf};
+ghost use Rattle.std.specs.Prelude.{◌≡◌};
+ghost use Rattle.rounding.specs.Rule.{Rule, Monotone, Nearest};
 
 use crate::answers::Remainder;
 
@@ -21,10 +20,7 @@ pub trait RoundingRule {
     ghost monotone: { (x : Self) → Monotone (table x) };
 }
 
-// A rule that goes to the nearer neighbour, and has its own word at the half.
+// A rule that goes to the nearer neighbour, and has its own word only at the half.
 pub trait NearestRule: RoundingRule {
-    fn at_half(&self, negative: bool, odd: bool) -> bool
-        ensures half { result ≡ (Self.RoundingRule.table self.now).away negative odd Half }
-        ensures below { (Self.RoundingRule.table self.now).away negative odd BelowHalf ≡ false }
-        ensures above { (Self.RoundingRule.table self.now).away negative odd AboveHalf ≡ true };
+    ghost nearest: { (x : Self) → Nearest (Self.RoundingRule.table x) };
 }

@@ -1,6 +1,6 @@
 // The rounding rules.
 ghost use Rattle.std.specs.Prelude.{◌≡◌, Bool, true, false};
-ghost use Rattle.rounding.specs.Rules.{ties_to_even, ties_to_away, toward_positive, toward_negative, toward_zero, table_of, ByRuleByte};
+ghost use Rattle.rounding.specs.Rules.{nearer, ties_to_even, ties_to_away, toward_positive, toward_negative, toward_zero, table_of, ByRuleByte};
 ghost use Rattle.std.proofs.Common.{rules};
 
 use crate::answers::Remainder;
@@ -21,17 +21,24 @@ pub struct TowardNegative;
 #[derive(Clone, Copy)]
 pub struct TowardZero;
 
+// Whether a nearest rule goes away, by its word at the half.
+fn nearer(remainder: Remainder, at_half: bool) -> bool
+    ensures { result ≡ nearer remainder at_half }
+{
+    match remainder {
+        Remainder::BelowHalf => false,
+        Remainder::Half => at_half,
+        Remainder::AboveHalf => true,
+    }
+}
+
 impl RoundingRule for NearestTiesToEven {
     ghost table = { λ _. ties_to_even };
 
     ghost monotone = { Prim.search rules };
 
     fn goes_away(&self, _negative: bool, odd: bool, remainder: Remainder) -> bool {
-        match remainder {
-            Remainder::BelowHalf => false,
-            Remainder::Half => odd,
-            Remainder::AboveHalf => true,
-        }
+        nearer(remainder, odd)
     }
 
     fn overflows_to_infinity(&self, _negative: bool) -> bool {
@@ -40,9 +47,7 @@ impl RoundingRule for NearestTiesToEven {
 }
 
 impl NearestRule for NearestTiesToEven {
-    fn at_half(&self, _negative: bool, odd: bool) -> bool {
-        odd
-    }
+    ghost nearest = { Prim.search rules };
 }
 
 impl RoundingRule for NearestTiesToAway {
@@ -51,11 +56,7 @@ impl RoundingRule for NearestTiesToAway {
     ghost monotone = { Prim.search rules };
 
     fn goes_away(&self, _negative: bool, _odd: bool, remainder: Remainder) -> bool {
-        match remainder {
-            Remainder::BelowHalf => false,
-            Remainder::Half => true,
-            Remainder::AboveHalf => true,
-        }
+        nearer(remainder, true)
     }
 
     fn overflows_to_infinity(&self, _negative: bool) -> bool {
@@ -64,9 +65,7 @@ impl RoundingRule for NearestTiesToAway {
 }
 
 impl NearestRule for NearestTiesToAway {
-    fn at_half(&self, _negative: bool, _odd: bool) -> bool {
-        true
-    }
+    ghost nearest = { Prim.search rules };
 }
 
 impl RoundingRule for TowardPositive {

@@ -1,13 +1,15 @@
 -- Laws of numbers in words, cut at a bit.
-use Rattle.std.proofs.Common.{◌≡◌, ℕ, zero, suc, ◌+◌, ◌-◌, ◌*◌, ◌/◌, ◌%◌, ◌^◌, ◌<◌, ◌≤◌, not, eqb, List, [], ◌∷◌, get_or, take, drop, sym, refl, ap, ◌∙◌, mul_assoc, mul_comm, add-mul, zero-mul, arith, pow_mono}
+use Rattle.std.proofs.Common.{◌≡◌, ℕ, zero, suc, cond, Some, None, ◌+◌, ◌-◌, ◌*◌, ◌/◌, ◌%◌, ◌^◌, ◌<◌, ◌≤◌, Bool, not, eqb, List, [], ◌∷◌, get_or, take, drop, sym, refl, ap, ◌∙◌, mul_assoc, mul_comm, add-mul, zero-mul, arith, pow_mono}
 use lib.Count.{count_leading_zeros}
 use Rattle.layout.specs.Digits.{digits}
 use Rattle.layout.proofs.DigitLaws.{digits_unique}
 use Rattle.std.specs.List.{AllByRecursion, list_any}
 use Rattle.std.proofs.lemmas.Bool.Decides.{nat_tests}
 use Rattle.std.proofs.lemmas.Nat.{pow-add, pow_pos, shr-shr, shr_split, shr_high, shr_below, mod_low, mod-pow-add, field_of, leading_top, mul-le, mod_below, one_shl}
+use Rattle.sums.specs.Cuts.{remainder_of, left_below}
 use Rattle.sums.specs.Words.{number, Eight}
-use Rattle.sums.proofs.WordLaws.{scaled, word_below, take_below, take_word, number_split}
+use Rattle.sums.specs.declared.magnitude.Remainder.TheVariants.{BelowHalf, Half, AboveHalf}
+use Rattle.sums.proofs.WordLaws.{word_below, take_below, take_word, number_split}
 
 -- the words from one up are the number shifted down, and the words below it what is left
 number_shr : (ws : List ℕ) (i : ℕ) → AllByRecursion (λ w. w < 2 ^ 32) ws → number ws / 2 ^ (32 * i) ≡ number (drop i ws)
@@ -110,3 +112,15 @@ pub rest_none : (ws : List ℕ) (place : ℕ) → Eight ws → place < 256 → g
 rest_none ws place h lt none =
     let W = 2 ^ (32 * (place / 32)) in
     omega (arith, below_bit ws place h lt, ap (λ y. y * W) none, zero-mul W)
+
+-- what is left below a bit, by the bit below it and what is left below that
+pub half_and_rest : (n e : ℕ) → 0 < e → n % 2 ^ e ≡ n / 2 ^ (e - 1) % 2 * 2 ^ (e - 1) + n % 2 ^ (e - 1)
+half_and_rest n e some = let x : e ≡ 1 + (e - 1) = omega arith in ap (λ y. n % 2 ^ y) x ∙ mod-pow-add n 1 (e - 1)
+
+four_cases : (left unit bit rest : ℕ) (h r : Bool) → rest < unit → bit < 2 → left ≡ bit * unit + rest → h ≡ eqb bit 1 → r ≡ not (eqb rest 0) → cond (eqb left 0) None (Some (remainder_of left unit)) ≡ cond h (Some (cond r AboveHalf Half)) (cond r (Some BelowHalf) None)
+four_cases left unit zero rest h r short two is hh rr = grind (arith, nat_tests)
+four_cases left unit (suc zero) rest h r short two is hh rr = grind (arith, nat_tests)
+four_cases left unit (suc (suc bit)) rest h r short two is hh rr = absurd (omega arith)
+
+pub left_is : (n e : ℕ) (h r : Bool) → 0 < e → h ≡ eqb (n / 2 ^ (e - 1) % 2) 1 → r ≡ not (eqb (n % 2 ^ (e - 1)) 0) → left_below n e ≡ cond h (Some (cond r AboveHalf Half)) (cond r (Some BelowHalf) None)
+left_is n e h r some = four_cases (n % 2 ^ e) (2 ^ (e - 1)) (n / 2 ^ (e - 1) % 2) (n % 2 ^ (e - 1)) h r (mod_below n (2 ^ (e - 1)) (pow_pos (e - 1))) (mod_below (n / 2 ^ (e - 1)) 2 (omega arith)) (half_and_rest n e some)

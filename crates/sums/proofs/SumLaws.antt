@@ -1,10 +1,10 @@
 -- A value is one sum's.
-use Rattle.std.proofs.Common.{◌≡◌, List, [], ℕ, refl, Decides, ap, ◌∙◌, subst}
+use Rattle.std.proofs.Common.{◌≡◌, List, [], ℕ, refl, Decides, ap, subst}
 use Rattle.std.proofs.Props.{props}
 use Rattle.std.proofs.lemmas.Bool.Decides.{Decides-eqb}
 use Rattle.std.proofs.lemmas.Slice.Eq.{slice_eq-Decides}
-use Rattle.formats.specs.Value.{nan, infinite, finite}
-use Rattle.formats.specs.ValueLaws.{same_finite, not_infinite, not_nan}
+use Rattle.formats.specs.Value.{finite}
+use Rattle.formats.specs.ValueLaws.{same_finite}
 use Rattle.sums.specs.Sums.{value}
 use Rattle.sums.specs.Words.{Eight, twos_complement}
 use Rattle.sums.specs.declared.signed.Signed.{Signed}

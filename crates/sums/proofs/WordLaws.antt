@@ -1,5 +1,5 @@
 -- Laws of numbers in words.
-use Rattle.std.proofs.Common.{◌≡◌, ℕ, zero, suc, ◌+◌, ◌-◌, ◌*◌, ◌^◌, ◌<◌, ◌≤◌, Bool, true, false, List, [], ◌∷◌, ◌++◌, length, get_or, take, drop, set, sym, refl, ap, ◌∙◌, mul_assoc, mul_comm, add-mul, zero-mul, arith, length-set, drop-cons, pow_pos, pow-add, mul-add, length-drop, length-append}
+use Rattle.std.proofs.Common.{◌≡◌, ℕ, zero, suc, ◌+◌, ◌*◌, ◌^◌, ◌<◌, ◌≤◌, Bool, true, false, List, [], ◌∷◌, ◌++◌, length, get_or, take, drop, set, sym, refl, ap, ◌∙◌, mul_assoc, mul_comm, add-mul, zero-mul, arith, length-set, drop-cons, pow_pos, pow-add, mul-add, length-drop, length-append}
 use borrow.Rule.Slice.PartMut.{mid_of, put_mid}
 use lib.Seq.{length-take-le}
 use Rattle.std.specs.List.{AllByRecursion}

@@ -1,6 +1,6 @@
 -- The value that a sum stands for, in units of 2^-96. The order of the words (the lowest first) and the place of the sign
 -- (two's complement) are this program's own choice; what counts is the value.
-use Rattle.std.specs.Prelude.{◌≡◌, ℕ, Bool, true, false, not, unsigned_abs}
+use Rattle.std.specs.Prelude.{ℕ, Bool, true, false, not, unsigned_abs}
 use Rattle.std.specs.Int.Signed.{non_neg}
 use Rattle.formats.specs.Value.{Value, nan, infinite, finite}
 use Rattle.sums.specs.Words.{twos_complement}

@@ -3,7 +3,7 @@ ghost use Rattle.std.specs.Prelude.{◌≡◌, ◌+◌, ◌/◌, ◌%◌, ◌^�
 ghost use Rattle.std.specs.List.{list_any};
 ghost use Rattle.std.proofs.Props.{props};
 ghost use Rattle.layout.specs.Digits.{digits};
-ghost use Rattle.sums.specs.Cuts.{CutAt};
+ghost use Rattle.sums.specs.Cuts.{CutAt, left_below};
 ghost use Rattle.sums.specs.Words.{number, Eight};
 
 // A whole number in eight 32-bit words, the lowest first.
@@ -13,13 +13,19 @@ pub struct Magnitude {
     ghost eight: { Eight words } by { Prim.hlevel props },
 }
 
-// A number cut at a bit: the digits from there up, the bit below, and whether any bit is set below
-// that one.
+// What is left of a number below a bit, where something is left.
+#[derive(Clone, Copy, PartialEq, Eq)]
+pub enum Remainder {
+    BelowHalf,
+    Half,
+    AboveHalf,
+}
+
+// A number cut at a bit: the digits from there up, and what is left below.
 #[derive(Clone, Copy)]
 pub struct Cut {
     pub digits: u32,
-    pub half: bool,
-    pub rest: bool,
+    pub remainder: Option<Remainder>,
 }
 
 impl Magnitude {
@@ -44,8 +50,20 @@ impl Magnitude {
     {
         Cut {
             digits: self.digits_from(place),
-            half: self.bit(place - 1),
-            rest: self.any_below(place - 1),
+            remainder: self.left_below(place),
+        }
+    }
+
+    // What is left below a bit.
+    fn left_below(&self, place: u32) -> Option<Remainder>
+        requires { (0 < place) × (place < 256) }
+        ensures { result ≡ left_below (number self.now.words) place }
+    {
+        match (self.bit(place - 1), self.any_below(place - 1)) {
+            (false, false) => None,
+            (false, true) => Some(Remainder::BelowHalf),
+            (true, false) => Some(Remainder::Half),
+            (true, true) => Some(Remainder::AboveHalf),
         }
     }
 

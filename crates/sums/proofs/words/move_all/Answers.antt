@@ -1,4 +1,4 @@
-use Rattle.std.proofs.Common.{rules, ◌≡◌, ◌<◌, ◌*◌, ◌^◌, length, refl, ap, arith}
+use Rattle.std.proofs.Common.{rules, ◌≡◌, ◌<◌, ◌*◌, ◌^◌, length, ap, arith}
 use Rattle.sums.proofs.WordLaws.{eight_of, eight_set, gathered_word, number_all, renamed}
 use Rattle.sums.proofs.words.move_all.Goals as goal
 

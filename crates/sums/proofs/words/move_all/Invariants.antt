@@ -1,4 +1,4 @@
-use Rattle.std.proofs.Common.{◌*◌, ◌^◌, ◌≤◌, length, take}
+use Rattle.std.proofs.Common.{◌*◌, ◌^◌, ◌≤◌, take}
 use Rattle.sums.specs.Words.{number, Eight, Balanced}
 use Rattle.sums.proofs.words.move_all.Given as goal
 

@@ -1,4 +1,4 @@
-use Rattle.std.proofs.Common.{rules, ◌≡◌, ◌+◌, ◌-◌, ◌*◌, ◌^◌, List, ℕ, length, set, arith, length-set}
+use Rattle.std.proofs.Common.{rules, ◌+◌, ◌-◌, ◌*◌, ◌^◌, List, ℕ, set, arith}
 use Rattle.sums.specs.Words.{number, Eight, Balanced}
 use Rattle.sums.proofs.WordLaws.{eight_of, two_words, raised, two_and_one, stops}
 use Rattle.sums.proofs.words.move_at.Goals as goal

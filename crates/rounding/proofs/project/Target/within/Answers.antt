@@ -1,28 +1,24 @@
 use Rattle.std.proofs.Common.{◌≡◌, ◌-◌, ◌*◌, ◌%◌, ◌^◌, ap, ◌∙◌, arith}
 use Rattle.std.proofs.lemmas.Nat.{shl_whole}
-use Rattle.std.proofs.lemmas.Bool.{leb-true, leb-false, ltb-true}
+use Rattle.std.proofs.lemmas.Bool.{leb-true, leb-false}
 use Rattle.rounding.proofs.StepLaws.{within_units, beyond_units, beyond_place}
-use Rattle.rounding.proofs.project.within.Goals as goal
+use Rattle.rounding.proofs.project.Target.within.Goals as goal
 
 pub returns-then-place-lt128 : goal.returns-then-place-lt128
 returns-then-place-lt128 g c =
-    let m = g.F.Format.meaning c.args.format.now in
+    let m = g.F.Format.meaning c.args.self.now.format.now in
     let s = c.args.significand in
     let place = c.args.place in
     let whole : c.from.result * 2 ^ (place - 64) % 2 ^ 128 ≡ s * 2 ^ (place - 64) =
     ap (λ x. x * 2 ^ (place - 64) % 2 ^ 128) c.from.ensures ∙ shl_whole s 13 (place - 64) 128 (omega arith) (omega arith) in
-    let most = c.from-then-place-lt128.result in
-    let is : most ≡ m.largest = c.from-then-place-lt128.ensures ∙ c.shape.ensures.largest in
+    let most = c.from-largest.result in
+    let is : most ≡ m.largest = c.from-largest.ensures ∙ c.shape.ensures.largest in
     record {
       within = λ t. (c.if-place-lt128.true, within_units s place m.largest c.requires.0 (omega (arith, leb-true _ most t)));
       beyond = λ t some. beyond_units s place m.largest c.requires.0 (omega (arith, leb-false _ most t));
     }
 
-pub returns-else-place-lt128 : goal.returns-else-place-lt128
-returns-else-place-lt128 g c =
-    let m = g.F.Format.meaning c.args.format.now in
-    let laws = g.met.F.Format.lawful c.args.format.now in
-    record {
-      within = λ t. absurd (omega (arith, ltb-true c.args.place 128 t));
-      beyond = λ t some. beyond_place c.args.significand c.args.place m.largest c.if-place-lt128.false (some c.if-place-lt128.false) laws.below;
-    }
+pub returns-else-place-lt128-clause-beyond : goal.returns-else-place-lt128-clause-beyond
+returns-else-place-lt128-clause-beyond g c t some =
+    let far = c.if-place-lt128.false in
+    beyond_place c.args.significand c.args.place _ far (some far) (g.met.F.Format.lawful c.args.self.now.format.now).below

@@ -2,11 +2,11 @@ use Rattle.std.proofs.Common.{sym, subst, arith}
 use Rattle.std.proofs.lemmas.Nat.{shr_below}
 use Rattle.sums.specs.Cuts.{CutAt}
 use Rattle.sums.specs.Words.{number}
-use Rattle.rounding.proofs.project.size_of.Goals as goal
+use Rattle.rounding.proofs.project.Target.placed.Goals as goal
 
 pub returns : goal.returns
 returns g c =
-    let is = c.magnitude-size.ensures.size in
+    let is = c.magnitude-size.ensures in
     let place = c.last_place-place.result in
     record {
       negative = c.is_negative.ensures;
