@@ -20,7 +20,7 @@ pub struct Layout {
 }
 
 impl Layout {
-    ghost use Rattle.layout.specs.Layouts.{size_in, StandsIn, SizeAt, CodeFound, OneCode, PlacedIn};
+    ghost use Rattle.layout.specs.Layouts.{layout_size, StandsIn, SizeAt, CodeFound, OneCode, PlacedIn};
 
     // The size at a code, or None past the last.
     pub fn at(&self, code: u16) -> Option<Size>
@@ -31,7 +31,7 @@ impl Layout {
 
     // The size at the last code, in units of 2^-32.
     pub fn largest(&self) -> u64
-        ensures { result ≡ size_in self.now (self.now.count - 1) }
+        ensures { result ≡ layout_size self.now (self.now.count - 1) }
     {
         units(self.size(self.count - 1))
     }
