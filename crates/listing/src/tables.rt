@@ -44,7 +44,6 @@ fn lines<F: Format>(heap: Global, format: &F, count: u32) -> Result<Vec<String>,
     requires { (count ≡ 2 ^ (F.Format.meaning format.now).width) × (count ≤ 65536) }
     ensures { MatchResult result (λ v. Complete string_bytes (F.Format.meaning format.now) v.items) OnlyMemory }
 {
-    // `try_collect` does not say which error it ends at.
     let mut lines = Vec::new(heap);
     for code in 0..count {
         lines.push(row(heap, format, code as u16)?)?;
