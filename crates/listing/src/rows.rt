@@ -14,7 +14,7 @@ use std::alloc::{AllocError, AllocFailed, Global};
 use std::fmt;
 
 // Why a row is not there.
-#[derive(Drop)]
+#[derive(Debug, Drop)]
 pub enum Unlisted {
     Refused(Fault),
     NoMemory,
