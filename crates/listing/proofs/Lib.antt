@@ -1,4 +1,5 @@
 mod NumeralLaws
+mod PaddingLaws
 mod RowLaws
 mod TableLaws
 mod TextLaws
