@@ -50,7 +50,7 @@ fn chosen(rt: &HostRuntime) -> anyhow::Result<Vec<AnyFormat>> {
     }
     if formats.is_empty() {
         for byte in 1..=u8::MAX {
-            if let Ok(format) = AnyFormat::from_byte(byte) {
+            if let Ok(format) = AnyFormat::try_from(byte) {
                 formats.push(format)?;
             }
         }

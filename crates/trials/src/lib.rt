@@ -34,7 +34,7 @@ mod tests {
                 significand,
                 exponent,
             };
-            let Ok(format) = AnyFormat::from_byte(byte) else {
+            let Ok(format) = AnyFormat::try_from(byte) else {
                 return Err(Fail::new("no such format"));
             };
             assert_eq!(rt;
@@ -63,7 +63,7 @@ mod tests {
     #[test]
     fn codes_read_back(rt: HostRuntime) {
         for byte in 0..=u8::MAX {
-            if let Ok(format) = AnyFormat::from_byte(byte) {
+            if let Ok(format) = AnyFormat::try_from(byte) {
                 for code in 0..=u16::MAX {
                     if let Ok(reading) = format.decode(code) {
                         let back = format.encode(reading).unwrap_or(0);
@@ -88,7 +88,7 @@ mod tests {
 
     #[test]
     fn lines_of_binary16(rt: HostRuntime) -> Result<(), Fail> {
-        let Ok(format) = AnyFormat::from_byte(0) else {
+        let Ok(format) = AnyFormat::try_from(0) else {
             return Err(Fail::new("no such format"));
         };
         for (code, line) in LINES {
