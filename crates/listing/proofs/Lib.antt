@@ -2,4 +2,3 @@ mod NumeralLaws
 mod PaddingLaws
 mod RowLaws
 mod TableLaws
-mod TextLaws

@@ -81,6 +81,7 @@ impl fmt::Display for Units {
     }
 }
 
+#[tactic(auto, using(crate::proofs::NumeralLaws::units_decimal))]
 pub(crate) fn decimal(negative: bool, units: u64) -> Units
     ensures { Decimal negative units (units_text result.negative result.units) }
 {
@@ -89,6 +90,7 @@ pub(crate) fn decimal(negative: bool, units: u64) -> Units
 
 // The decimal digits of fraction / 2^32 as a whole number, and how many there are: n / 2^p is
 // n × 5^p / 10^p.
+#[tactic(auto, using(crate::proofs::NumeralLaws::five_room, crate::proofs::NumeralLaws::number_room))]
 fn decimals(fraction: u32) -> (u128, usize)
     ensures { (result.0 ≡ number_after fraction) × (result.1 ≡ places_after fraction) }
 {

@@ -19,13 +19,13 @@ returns-then-size-eq0 c =
     rw (c.if-size-eq0.true, size_zero l.precision b (omega (arith, l.precise))) (omega arith) in
     (zero, one_code l.precision b (fine_size c.args.size) 0 l.precise zero)
 
-pub shifted-requires : goal.shifted-requires
-shifted-requires c =
+pub shifted-requires-clause-fits : goal.shifted-requires-clause-fits
+shifted-requires-clause-fits c =
     let l = c.args.self.now in
     let same = held c.args.size c.biased.result (search rules) c.biased.ensures.0 in
     let le : l.precision + c.place-place.result ≤ 16 + c.place-place.result = omega (arith, l.short) in
     let m : 2 ^ (l.precision + c.place-place.result) ≤ 2 ^ (16 + c.place-place.result) = pow_mono le in
-    record { some = omega (arith, c.if-size-eq0.false); fits = omega (arith, same, c.place-place.ensures.0.short) }
+    omega (arith, same, c.place-place.ensures.0.short)
 
 pub returns-in_err-significand : goal.returns-in_err-significand
 returns-in_err-significand c =

@@ -1,4 +1,4 @@
-use Rattle.std.proofs.Common.{◌≡◌, ℕ, suc, ◌+◌, ◌-◌, ◌/◌, ◌^◌, ◌<◌, ◌≤◌, arith, pow_pos, rules}
+use Rattle.std.proofs.Common.{◌≡◌, ℕ, suc, ◌+◌, ◌-◌, ◌/◌, ◌^◌, ◌<◌, ◌≤◌, arith, pow_pos}
 use Rattle.std.proofs.lemmas.Nat.{le-div}
 use Rattle.std.proofs.lemmas.Int.{ints}
 use Rattle.layout.specs.Sizes.{bottom}
@@ -19,16 +19,6 @@ returns-then-code-hidden c =
     let l = c.args.self.now in
     let stands = stands_low l.precision c.args.code l.least_exponent _ (omega (arith, ints)) l.precise l.deep (omega (arith, l.top)) (omega (arith, c.hidden-hidden.ensures)) in
     record { stands = stands; small = in_units l.precision l.count c.args.code l.least_exponent _ l.precise l.deep c.requires l.top stands }
-
-pub overflow_cast-result : goal.overflow_cast-result
-overflow_cast-result c =
-    let t = fields c.args.self.now c.args.code c.hidden-hidden.result c.hidden-hidden.ensures.0 c.requires c.if-code-hidden.false in
-    search (rules, ints)
-
-pub overflow_add-result-2 : goal.overflow_add-result-2
-overflow_add-result-2 c =
-    let t = fields c.args.self.now c.args.code c.hidden-hidden.result c.hidden-hidden.ensures.0 c.requires c.if-code-hidden.false in
-    search (rules, ints)
 
 pub returns : goal.returns
 returns c =

@@ -1,11 +1,17 @@
-use Rattle.std.proofs.Common.{◌≡◌, ◌%◌, ◌^◌, cond, [], codes, arith, lit<}
+use Rattle.std.proofs.Common.{◌≡◌, ℕ, ◌/◌, Bool, List, ◌++◌, max, decimal, refl, ◌%◌, ◌^◌, cond, [], codes, arith, lit<}
 use Rattle.std.proofs.Output.{has_written_of_eq}
 use Rattle.std.proofs.lemmas.Nat.{mod_below}
+use Rattle.listing.specs.Texts.{numeral_text, places_after, number_after, units_text}
 use Rattle.listing.proofs.NumeralLaws.{number_below}
 use Rattle.listing.proofs.PaddingLaws.{decimal_padded}
-use Rattle.listing.proofs.TextLaws.{units_written}
 use Rattle.listing.proofs.numerals.UnitsDisplay.fmt.Goals as goal
 use Rattle.listing.proofs.numerals.UnitsDisplay.fmt.Goals.{then-self, else-self}
+
+-- the text from its parts
+units_written : (negative : Bool) (n places number : ℕ) (sign text : List ℕ) → sign ≡ cond negative (codes "-") [] → places ≡ places_after (n % 2 ^ 32) → number ≡ number_after (n % 2 ^ 32) → text ≡ numeral_text 10 (max places 1) number
+    → sign ++ (decimal (n / 2 ^ 32) ++ (codes "." ++ text)) ≡ units_text negative n
+unfolding units_text
+units_written negative n places number sign text sign_is places_is number_is is = rw (is, sign_is, places_is, number_is) refl
 
 pub returns-clause-writes : goal.returns-clause-writes
 returns-clause-writes g c plain ok =
