@@ -1,13 +1,12 @@
 -- Text that is written piece after piece.
-use Rattle.std.proofs.Common.{◌≡◌, ℕ, ◌+◌, ◌/◌, ◌%◌, ◌<◌, ◌≤◌, List, [], ◌∷◌, ◌++◌, length, get_or, take, zero, suc, Bool, true, false, ◌&&◌, eqb, refl, w16, arith, sym, ap, ◌∙◌}
+use Rattle.std.proofs.Common.{◌≡◌, ℕ, ◌/◌, ◌%◌, ◌<◌, List, ◌++◌, zero, suc, Bool, true, false, ◌&&◌, eqb, refl, w16, arith, ap, ◌∙◌}
 use Rattle.std.proofs.lemmas.Bool.Decides.{Decides-eqb, Decides-below_and}
-use Rattle.std.proofs.lemmas.List.{take_more, take_all, append-nil, append_assoc}
+use Rattle.std.proofs.lemmas.List.{append_assoc}
 use Rattle.hex.specs.Hex.{lower_digits, encode_with, encode_lower}
 use Rattle.std.specs.Prelude.{slice_index}
 use Rattle.std.specs.Int.{to_be_bytes}
 use Rattle.std.specs.Fmt.{digit_glyph}
-use Rattle.reports.specs.Texts.{hexadecimal, line_text, lines_text}
-use Rattle.sheets.specs.declared.line.Line.{Line}
+use Rattle.reports.specs.Texts.{hexadecimal}
 
 -- two pieces, one after the other
 pub joined : (before x y : List ℕ) {middle after : List ℕ} → middle ≡ before ++ x → after ≡ middle ++ y → after ≡ before ++ (x ++ y)
@@ -34,18 +33,3 @@ hexadecimal_is n lt =
     let c = glyph_of (n % 256 / 16) (n / 16 % 16) (omega arith) (omega arith) in
     let d = glyph_of (n % 256 % 16) (n % 16) (omega arith) (omega arith) in
     cc
-
-lines_push : (ls : List Line) (l : Line) → lines_text (ls ++ (l ∷ [])) ≡ lines_text ls ++ line_text l
-lines_push [] l = append-nil (line_text l)
-lines_push (x ∷ ls) l = ap (λ t. line_text x ++ t) (lines_push ls l) ∙ sym (append_assoc (line_text x) (lines_text ls) (line_text l))
-
--- one more line at the end of a text
-pub lines_more : (before text after piece : List ℕ) (ls : List Line) (i : ℕ) (d : Line) → i < length ls → text ≡ before ++ lines_text (take i ls) → after ≡ text ++ piece → piece ≡ line_text (get_or ls i d) → after ≡ before ++ lines_text (take (i + 1) ls)
-lines_more before text after piece ls i d lt so_far pushed is =
-    pushed
-    ∙ ap (λ t. t ++ piece) so_far
-    ∙ append_assoc before (lines_text (take i ls)) piece
-    ∙ ap (λ t. before ++ t) (ap (λ p. lines_text (take i ls) ++ p) is ∙ sym (ap lines_text (take_more ls i d lt) ∙ lines_push (take i ls) (get_or ls i d)))
-
-pub lines_all : (before text : List ℕ) (ls : List Line) (i : ℕ) → length ls ≤ i → text ≡ before ++ lines_text (take i ls) → text ≡ before ++ lines_text ls
-lines_all before text ls i le so_far = so_far ∙ ap (λ t. before ++ lines_text t) (take_all i ls le)
