@@ -27,7 +27,7 @@ use Rattle.rounding.specs.declared.answers.Mark.{Mark}
 use Rattle.rounding.specs.declared.answers.Mark.TheVariants.{Exact}
 use Rattle.rounding.specs.declared.answers.Saturation.{Saturation}
 use Rattle.rounding.specs.declared.project.Answer.{Answer}
-use Rattle.rounding.specs.declared.project.Placed.{Placed}
+use Rattle.rounding.specs.declared.placed.Placed.{Placed}
 use Rattle.rounding.proofs.CellLaws.{in_units}
 use Rattle.rounding.proofs.RoundLaws.{size_ways, answered_coded}
 use Rattle.rounding.proofs.SizedLaws.{largest_fine, rounded_most, place_some}
