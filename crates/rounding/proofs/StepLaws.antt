@@ -1,15 +1,13 @@
 -- Laws of the projection's steps.
-use Rattle.std.proofs.Common.{◌≡◌, ℕ, suc, ◌+◌, ◌-◌, ◌*◌, ◌/◌, ◌%◌, ◌^◌, ◌<◌, ◌≤◌, max, Bool, true, false, cond, not, None, ◌⊎◌, pos, ℤ, ◌*ℤ◌, nat_abs, sym, refl, ap, ◌∙◌, subst, ap₂, ⊎_elim, mod-lt, mul_assoc, suc-mul, add-one, arith, pow_pos, pow_mono, pow-add, shr_lt, rules}
+use Rattle.std.proofs.Common.{◌≡◌, ℕ, suc, ◌+◌, ◌-◌, ◌*◌, ◌/◌, ◌%◌, ◌^◌, ◌<◌, ◌≤◌, max, Bool, true, false, cond, not, None, ◌⊎◌, pos, ℤ, ◌*ℤ◌, sym, refl, ap, ◌∙◌, ap₂, ⊎_elim, mod-lt, mul_assoc, suc-mul, add-one, arith, pow_pos, pow_mono, pow-add, shr_lt, rules}
 use native.Mathlib.Nat.{max_comm}
 use lib.Count.{count_leading_zeros}
-use lib.Pow.{split, shl-shr}
-use lib.Signed.{non_neg}
+use lib.Pow.{shl-shr}
 use mir.Val.{bool_byte}
 use Rattle.std.proofs.lemmas.Nat.{leading_top, mul-le}
 use Rattle.std.proofs.lemmas.Int.{ints}
 use Rattle.std.specs.Option.{is_some}
-use Rattle.std.proofs.lemmas.Bool.Decides.{nat_tests}
-use Rattle.std.proofs.lemmas.Bool.{cases_lt, lt-ltb, le-ltb}
+use Rattle.std.proofs.lemmas.Bool.{cases_lt}
 use Rattle.layout.specs.Digits.{digits}
 use Rattle.layout.specs.Sizes.{bottom}
 use Rattle.layout.proofs.DigitLaws.{digits_below, pow_order}
@@ -17,7 +15,6 @@ use Rattle.layout.proofs.SizeLaws.{size_aligned}
 use Rattle.formats.specs.Meaning.{Meaning, Lawful, Coded}
 use Rattle.formats.specs.Readings.{fine}
 use Rattle.formats.specs.Value.{Value, finite, signed, finer}
-use Rattle.formats.specs.ValueLaws.{signed-*, signed_abs}
 use Rattle.sums.specs.Cuts.{CutAt}
 use Rattle.sums.specs.declared.magnitude.Cut.{Cut}
 use Rattle.rounding.specs.Answers.{Answers, IsPlaced, Settles, beside, cut_mark, cut_away}
@@ -34,7 +31,7 @@ use Rattle.rounding.proofs.SizedLaws.{largest_fine, rounded_most, place_some}
 
 -- ±s × 2^e as a finer ±n
 pub reads : (negative : Bool) (s e n k : ℕ) → s * 2 ^ e ≡ n * 2 ^ k → finite (signed negative (s * 2 ^ e)) ≡ finite (signed negative n *ℤ pos (2 ^ k))
-reads negative s e n k is = ap finite (ap (signed negative) is ∙ sym (signed-* negative n (2 ^ k)))
+reads negative s e n k is = search rules
 
 -- s × 2^e, shifted by k
 pub shifted : (s e k n : ℕ) → s * 2 ^ e ≡ n → s * 2 ^ (e + k) ≡ n * 2 ^ k
@@ -101,27 +98,27 @@ abbrev marked : Bool → ℕ → ℕ → Mark
 marked negative n k = mark_of (finite (signed negative n)) (finite (signed negative k))
 
 mark_inward : (negative : Bool) (n k : ℕ) → k * 2 ^ 64 < n → marked negative n k ≡ beside negative
-mark_inward negative n k lt = rw (signed-* negative k (2 ^ 64)) (search rules)
+mark_inward negative n k lt = search rules
 
 mark_outward : (negative : Bool) (n k : ℕ) → n < k * 2 ^ 64 → marked negative n k ≡ beside (not negative)
-mark_outward negative n k lt = rw (signed-* negative k (2 ^ 64)) (search rules)
+mark_outward negative n k lt = search rules
 
 mark_exact : (negative : Bool) (n k : ℕ) → n ≡ k * 2 ^ 64 → marked negative n k ≡ Exact
-mark_exact negative n k e = rw (signed-* negative k (2 ^ 64)) (search rules)
+mark_exact negative n k e = search rules
 
 -- nothing is left below the cut, or something is
 left_ways : (n e : ℕ) (cut : Cut) → CutAt n e cut → ((n % 2 ^ e ≡ 0) × (cut.remainder ≡ None)) ⊎ ((0 < n % 2 ^ e) × (is_some cut.remainder ≡ true))
-left_ways n e cut is = rw is.remainder (grind (arith, nat_tests))
+left_ways n e cut is = search rules
 
 -- a size cut at its last place
 module _ (m : Meaning) (laws : Lawful m) (rule : Rule) (n : ℕ) (p : Placed) (at : p.place ≡ last_place m n) (is : CutAt n p.place p.cut) where
   digits_are : significand_of m n ≡ p.cut.digits
   unfolding significand_of
-  digits_are = rw (sym at) (sym is.digits)
+  digits_are = search rules
 
   away_is : goes_away m rule p.negative n ≡ cut_away rule p.negative p.cut
   unfolding goes_away left_of significand_of
-  away_is = rw (sym at, is.remainder, is.digits) (search rules)
+  away_is = search rules
 
   module _ (away : Bool) (s : ℕ) (aw : away ≡ cut_away rule p.negative p.cut) (e : s ≡ p.cut.digits + bool_byte away) where
     rounded_is : rounded m rule p.negative n ≡ s * 2 ^ p.place
@@ -131,7 +128,7 @@ module _ (m : Meaning) (laws : Lawful m) (rule : Rule) (n : ℕ) (p : Placed) (a
         rw (away_is, sym aw, sym at, digits_are, e) (ap (λ x. x * 2 ^ p.place) picks)
 
     size_is : n ≡ p.cut.digits * 2 ^ p.place + n % 2 ^ p.place
-    size_is = rw is.digits (sym (split n p.place))
+    size_is = grind (arith, ints)
 
     by_away : (way : Bool) → way ≡ away → 0 < n % 2 ^ p.place → marked p.negative n (s * 2 ^ (p.place - 64)) ≡ beside (cond way (not p.negative) p.negative)
     by_away true w left =
@@ -181,8 +178,4 @@ projected_is m rule mode x a code laws is coded =
 
 -- the answer for a finite value is that for its sign and its size
 pub finite_answers : (m : Meaning) (rule : Rule) (mode : Saturation) (v : Value) (x : ℤ) (p : Placed) (a : Answer) → v ≡ finite x → IsPlaced m v p → Settles m rule mode p a → Answers v (answered m rule mode v) a
-finite_answers m rule mode v x p a e is settles =
-    let placed : IsPlaced m (finite x) p = rw e at is in
-    rw e
-    (subst (λ y. Answers (finite y) (of_size m rule mode (not (non_neg x)) (nat_abs x)) a) (signed_abs x)
-    (subst (λ y. Answers (finite (signed y (nat_abs x))) (of_size m rule mode y (nat_abs x)) a) placed.negative (settles (nat_abs x) placed.place placed.cut)))
+finite_answers m rule mode v x p a e is settles = search rules
