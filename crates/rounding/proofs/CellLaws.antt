@@ -71,7 +71,7 @@ passes p t k e h short lt =
     let m : 2 ^ (p + k) ≤ 2 ^ (p - 1 + e) = pow_mono (omega arith) in
     omega (arith, pow-add 2 p k, pow-add 2 (p - 1) e)
 
-module _ (p b n e s left : ℕ) (precise : 1 ≤ p) (cell : Cell p b n e s left) where
+module _ {p b n e s left : ℕ} (precise : 1 ≤ p) (cell : Cell p b n e s left) where
   pub cell_full : b < e → 2 ^ (p - 1) * 2 ^ e ≤ s * 2 ^ e
   cell_full lt = ⊎_elim (λ f. mul-le-mul_right (2 ^ e) f) (λ f. absurd (omega arith)) cell.full
 
@@ -105,13 +105,13 @@ module _ (p b n e s left : ℕ) (precise : 1 ≤ p) (cell : Cell p b n e s left)
   cell_exact shaped = ⊎_elim (λ l. omega arith) (λ l. omega arith) (nothing_between n shaped)
 
 -- a size and a larger one: the neighbour above is at most the neighbour below, or both lie between the same two
-pub cell_order : (p b n e s left n' e' s' left' : ℕ) → 1 ≤ p → Cell p b n e s left → Cell p b n' e' s' left' → e ≤ e' → n ≤ n' → (s * 2 ^ e + 2 ^ e ≤ s' * 2 ^ e') ⊎ ((e ≡ e') × (s ≡ s') × (left ≤ left'))
-cell_order p b n e s left n' e' s' left' h cell cell' ee le =
+pub cell_order : {p b n e s left n' e' s' left' : ℕ} → 1 ≤ p → Cell p b n e s left → Cell p b n' e' s' left' → e ≤ e' → n ≤ n' → (s * 2 ^ e + 2 ^ e ≤ s' * 2 ^ e') ⊎ ((e ≡ e') × (s ≡ s') × (left ≤ left'))
+cell_order {p} {b} {n} {e} {s} {left} {n'} {e'} {s'} {left'} h cell cell' ee le =
     ⊎_elim
     (λ lt.
     let be : b < e' = omega arith in
     let short : suc s ≤ 2 ^ p = cell.short in
-    inl (omega (arith, passes p (suc s) e e' h short lt, suc-mul s (2 ^ e), cell_full p b n' e' s' left' h cell' be)))
+    inl (omega (arith, passes p (suc s) e e' h short lt, suc-mul s (2 ^ e), cell_full h cell' be)))
     (λ ge.
     let x : e ≡ e' = omega arith in
     let y : 2 ^ e ≡ 2 ^ e' = ap (λ z. 2 ^ z) x in

@@ -86,7 +86,7 @@ module _ (m : Meaning) (laws : Lawful m) where
   place_some n = ⊎_elim (λ f. inl (omega (arith, pow_pos (m.precision - 1)))) inr (place n).full
 
   between : (n v : ℕ) → Fine m v → (v ≤ lower m n) ⊎ (upper m n ≤ v)
-  between n = nothing_between m.precision (bottom m.least + 64) n (last_place m n) (significand_of m n) (left_of m n) precise (place n)
+  between n = nothing_between precise (place n)
 
   pub largest_fine : Fine m (m.largest * 2 ^ 64)
   largest_fine = shaped_finer m.precision (bottom m.least) m.largest laws.largest_read.0
@@ -95,13 +95,13 @@ module _ (m : Meaning) (laws : Lawful m) where
     pub rounded_fine : (n : ℕ) → Fine m (rounded m rule negative n)
     rounded_fine n =
         ⊎_elim
-        (λ t. rw t.0 (lower_shaped m.precision (bottom m.least + 64) n (last_place m n) (significand_of m n) (left_of m n) precise (place n)))
-        (λ t. rw t.0 (upper_shaped m.precision (bottom m.least + 64) n (last_place m n) (significand_of m n) (left_of m n) precise (place n)))
+        (λ t. rw t.0 (lower_shaped precise (place n)))
+        (λ t. rw t.0 (upper_shaped precise (place n)))
         (rounded_ways m rule negative n)
 
     pub rounded_exact : (n : ℕ) → Fine m n → rounded m rule negative n ≡ n
     rounded_exact n fine =
-        let z = cell_exact m.precision (bottom m.least + 64) n (last_place m n) (significand_of m n) (left_of m n) precise (place n) fine in
+        let z = cell_exact precise (place n) fine in
         let is = (place n).is in
         ⊎_elim (λ t. omega arith) (λ t. absurd (omega arith)) (rounded_ways m rule negative n)
 
@@ -145,7 +145,7 @@ module _ (m : Meaning) (laws : Lawful m) where
         ⊎_elim
         (λ apart. omega (arith, rounded-upper n, rounded-lower n'))
         (λ t. rises_within mono n n' t.0 t.1 t.2)
-        (cell_order m.precision (bottom m.least + 64) n (last_place m n) (significand_of m n) (left_of m n) n' (last_place m n') (significand_of m n') (left_of m n') precise (place n) (place n') (place_rises m n n' le) le)
+        (cell_order precise (place n) (place n') (place_rises m n n' le) le)
 
     -- how far the rounded size is, and that none is nearer
     pub gap : (n : ℕ) → NearestAt rule negative (is_odd (significand_of m n)) → (g : ℕ) × (rounded m rule negative n ≤ n + g) × (n ≤ rounded m rule negative n + g) × (g ≤ n) × ((v : ℕ) → Fine m v → (v + g ≤ n) ⊎ (n + g ≤ v))
