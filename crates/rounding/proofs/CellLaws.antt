@@ -59,10 +59,10 @@ in_units s k e h =
 -- of two multiples of 2^e, one is at least the next of the other
 pub next_unit : (q s e : ℕ) → (q * 2 ^ e ≤ s * 2 ^ e) ⊎ (s * 2 ^ e + 2 ^ e ≤ q * 2 ^ e)
 next_unit q s e =
-    ⊎_elim
-    (λ l. let m : suc s * 2 ^ e ≤ q * 2 ^ e = mul-le-mul_right (2 ^ e) l in inr (omega (arith, suc-mul s (2 ^ e))))
-    (λ l. inl (mul-le-mul_right (2 ^ e) l))
-    (cases_lt s q)
+    let a = mul-le-mul_right {m = suc s} {n = q} (2 ^ e) in
+    let b = mul-le-mul_right {m = q} {n = s} (2 ^ e) in
+    let c = suc-mul s (2 ^ e) in
+    search rules
 
 -- 2^(P-1+e) passes every size of a smaller exponent
 pub passes : (p t k e : ℕ) → 1 ≤ p → t ≤ 2 ^ p → k < e → t * 2 ^ k ≤ 2 ^ (p - 1) * 2 ^ e
@@ -73,17 +73,19 @@ passes p t k e h short lt =
 
 module _ {p b n e s left : ℕ} (precise : 1 ≤ p) (cell : Cell p b n e s left) where
   pub cell_full : b < e → 2 ^ (p - 1) * 2 ^ e ≤ s * 2 ^ e
-  cell_full lt = ⊎_elim (λ f. mul-le-mul_right (2 ^ e) f) (λ f. absurd (omega arith)) cell.full
+  cell_full lt =
+      let full = cell.full in
+      let times = mul-le-mul_right {m = 2 ^ (p - 1)} {n = s} (2 ^ e) in
+      search rules
 
   -- nothing lies strictly between the two neighbours
   pub nothing_between : (v : ℕ) → Shaped p b v → (v ≤ s * 2 ^ e) ⊎ (s * 2 ^ e + 2 ^ e ≤ v)
   nothing_between v (t, k, is, short, bk) =
-      ⊎_elim
-      (λ lt.
-      let be : b < e = omega arith in
-      inl (omega (arith, passes p t k e precise (omega arith) lt, cell_full be)))
-      (λ le. rw (is ∙ in_units t k e le) (next_unit (t * 2 ^ (k - e)) s e))
-      (cases_lt k e)
+      let units = in_units t k e in
+      let next = next_unit (t * 2 ^ (k - e)) s e in
+      let full = cell_full in
+      let past = passes p t k e precise in
+      search rules
 
   pub lower_shaped : Shaped p b (s * 2 ^ e)
   lower_shaped = search rules
@@ -102,7 +104,10 @@ module _ {p b n e s left : ℕ} (precise : 1 ≤ p) (cell : Cell p b n e s left)
 
   -- a size of the precision has nothing left
   pub cell_exact : Shaped p b n → left ≡ 0
-  cell_exact shaped = ⊎_elim (λ l. omega arith) (λ l. omega arith) (nothing_between n shaped)
+  cell_exact shaped =
+      let apart = nothing_between n shaped in
+      let c = cell in
+      search rules
 
 -- a size and a larger one: the neighbour above is at most the neighbour below, or both lie between the same two
 pub cell_order : {p b n e s left n' e' s' left' : ℕ} → 1 ≤ p → Cell p b n e s left → Cell p b n' e' s' left' → e ≤ e' → n ≤ n' → (s * 2 ^ e + 2 ^ e ≤ s' * 2 ^ e') ⊎ ((e ≡ e') × (s ≡ s') × (left ≤ left'))

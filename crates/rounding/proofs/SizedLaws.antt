@@ -103,25 +103,18 @@ module _ (m : Meaning) (laws : Lawful m) where
     rises_within mono n n' e s left =
         let lo : lower m n ≡ lower m n' = rw (e, s) refl in
         let unit : 2 ^ last_place m n ≡ 2 ^ last_place m n' = rw e refl in
-        ⊎_elim
-        (λ t. omega (arith, rounded-lower n'))
-        (λ t.
-        ⊎_elim
-        (λ u.
-        ⊎_elim
-        (λ z. absurd (omega arith))
-        (λ no. absurd (both_ways (says m rule negative n') no (says_rises mono n n' e s left t.2)))
-        u.1)
-        (λ u. omega arith)
-        (rounded_ways m rule negative n'))
-        (rounded_ways m rule negative n)
+        let w = rounded_ways m rule negative n in
+        let w' = rounded_ways m rule negative n' in
+        let rises = says_rises mono n n' e s left in
+        search rules
 
     pub rounded_rises : Monotone rule → (n n' : ℕ) → n ≤ n' → rounded m rule negative n ≤ rounded m rule negative n'
     rounded_rises mono n n' le =
-        ⊎_elim
-        (λ apart. omega (arith, rounded-upper n, rounded-lower n'))
-        (λ t. rises_within mono n n' t.0 t.1 t.2)
-        (cell_order precise (place n) (place n') (place_rises m n n' le) le)
+        let apart = cell_order precise (place n) (place n') (place_rises m n n' le) le in
+        let above = rounded-upper n in
+        let below = rounded-lower n' in
+        let within = rises_within mono n n' in
+        search rules
 
     -- how far the rounded size is, and that none is nearer
     pub gap : (n : ℕ) → NearestAt rule negative (is_odd (significand_of m n)) → (g : ℕ) × (rounded m rule negative n ≤ n + g) × (n ≤ rounded m rule negative n + g) × (g ≤ n) × ((v : ℕ) → Fine m v → (v + g ≤ n) ⊎ (n + g ≤ v))
