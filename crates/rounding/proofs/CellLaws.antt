@@ -16,19 +16,9 @@ pub record Cell (p b n e s left : ℕ) : Type 0 where
   pub full : (2 ^ (p - 1) ≤ s) ⊎ (e ≡ b)
 
 cell_of : (p b n e : ℕ) → b ≤ e → n < 2 ^ (p + e) → (2 ^ (p - 1 + e) ≤ n) ⊎ (e ≡ b) → Cell p b n e (n / 2 ^ e) (n % 2 ^ e)
-cell_of p b n e be top full = record {
-  is = sym (split n e);
-  below = mod-lt n (pow_pos e);
-  short = shr_lt p e top;
-  above = be;
-  full =
-      ⊎_elim
-      (λ r.
-      let d : 2 ^ (p - 1 + e) / 2 ^ e ≡ 2 ^ (p - 1) = ap (λ x. x / 2 ^ e) (pow-add 2 (p - 1) e) ∙ shl-shr (2 ^ (p - 1)) e in
-      let l : 2 ^ (p - 1 + e) / 2 ^ e ≤ n / 2 ^ e = shr_mono e r in
-      inl (omega arith))
-      inr full;
-}
+cell_of p b n e be top full =
+    let quarter : 2 ^ (p - 1 + e) ≤ n → 2 ^ (p - 1) ≤ n / 2 ^ e = λ r. omega (arith, ap (λ x. x / 2 ^ e) (pow-add 2 (p - 1) e) ∙ shl-shr (2 ^ (p - 1)) e, shr_mono e r) in
+    record { is = sym (split n e); below = mod-lt n (pow_pos e); short = shr_lt p e top; above = be; full = search rules }
 
 pub cell_at : (p b n : ℕ) → 1 ≤ p → let e = max b (digits n - p) in Cell p b n e (n / 2 ^ e) (n % 2 ^ e)
 cell_at p b n h =
