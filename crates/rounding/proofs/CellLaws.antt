@@ -16,19 +16,9 @@ pub record Cell (p b n e s left : ℕ) : Type 0 where
   pub full : (2 ^ (p - 1) ≤ s) ⊎ (e ≡ b)
 
 cell_of : (p b n e : ℕ) → b ≤ e → n < 2 ^ (p + e) → (2 ^ (p - 1 + e) ≤ n) ⊎ (e ≡ b) → Cell p b n e (n / 2 ^ e) (n % 2 ^ e)
-cell_of p b n e be top full = record {
-  is = sym (split n e);
-  below = mod-lt n (pow_pos e);
-  short = shr_lt p e top;
-  above = be;
-  full =
-      ⊎_elim
-      (λ r.
-      let d : 2 ^ (p - 1 + e) / 2 ^ e ≡ 2 ^ (p - 1) = ap (λ x. x / 2 ^ e) (pow-add 2 (p - 1) e) ∙ shl-shr (2 ^ (p - 1)) e in
-      let l : 2 ^ (p - 1 + e) / 2 ^ e ≤ n / 2 ^ e = shr_mono e r in
-      inl (omega arith))
-      inr full;
-}
+cell_of p b n e be top full =
+    let quarter : 2 ^ (p - 1 + e) ≤ n → 2 ^ (p - 1) ≤ n / 2 ^ e = λ r. omega (arith, ap (λ x. x / 2 ^ e) (pow-add 2 (p - 1) e) ∙ shl-shr (2 ^ (p - 1)) e, shr_mono e r) in
+    record { is = sym (split n e); below = mod-lt n (pow_pos e); short = shr_lt p e top; above = be; full = search rules }
 
 pub cell_at : (p b n : ℕ) → 1 ≤ p → let e = max b (digits n - p) in Cell p b n e (n / 2 ^ e) (n % 2 ^ e)
 cell_at p b n h =
@@ -59,10 +49,10 @@ in_units s k e h =
 -- of two multiples of 2^e, one is at least the next of the other
 pub next_unit : (q s e : ℕ) → (q * 2 ^ e ≤ s * 2 ^ e) ⊎ (s * 2 ^ e + 2 ^ e ≤ q * 2 ^ e)
 next_unit q s e =
-    ⊎_elim
-    (λ l. let m : suc s * 2 ^ e ≤ q * 2 ^ e = mul-le-mul_right (2 ^ e) l in inr (omega (arith, suc-mul s (2 ^ e))))
-    (λ l. inl (mul-le-mul_right (2 ^ e) l))
-    (cases_lt s q)
+    let a = mul-le-mul_right {m = suc s} {n = q} (2 ^ e) in
+    let b = mul-le-mul_right {m = q} {n = s} (2 ^ e) in
+    let c = suc-mul s (2 ^ e) in
+    search rules
 
 -- 2^(P-1+e) passes every size of a smaller exponent
 pub passes : (p t k e : ℕ) → 1 ≤ p → t ≤ 2 ^ p → k < e → t * 2 ^ k ≤ 2 ^ (p - 1) * 2 ^ e
@@ -71,19 +61,21 @@ passes p t k e h short lt =
     let m : 2 ^ (p + k) ≤ 2 ^ (p - 1 + e) = pow_mono (omega arith) in
     omega (arith, pow-add 2 p k, pow-add 2 (p - 1) e)
 
-module _ (p b n e s left : ℕ) (precise : 1 ≤ p) (cell : Cell p b n e s left) where
+module _ {p b n e s left : ℕ} (precise : 1 ≤ p) (cell : Cell p b n e s left) where
   pub cell_full : b < e → 2 ^ (p - 1) * 2 ^ e ≤ s * 2 ^ e
-  cell_full lt = ⊎_elim (λ f. mul-le-mul_right (2 ^ e) f) (λ f. absurd (omega arith)) cell.full
+  cell_full lt =
+      let full = cell.full in
+      let times = mul-le-mul_right {m = 2 ^ (p - 1)} {n = s} (2 ^ e) in
+      search rules
 
   -- nothing lies strictly between the two neighbours
   pub nothing_between : (v : ℕ) → Shaped p b v → (v ≤ s * 2 ^ e) ⊎ (s * 2 ^ e + 2 ^ e ≤ v)
   nothing_between v (t, k, is, short, bk) =
-      ⊎_elim
-      (λ lt.
-      let be : b < e = omega arith in
-      inl (omega (arith, passes p t k e precise (omega arith) lt, cell_full be)))
-      (λ le. rw (is ∙ in_units t k e le) (next_unit (t * 2 ^ (k - e)) s e))
-      (cases_lt k e)
+      let units = in_units t k e in
+      let next = next_unit (t * 2 ^ (k - e)) s e in
+      let full = cell_full in
+      let past = passes p t k e precise in
+      search rules
 
   pub lower_shaped : Shaped p b (s * 2 ^ e)
   lower_shaped = search rules
@@ -102,16 +94,19 @@ module _ (p b n e s left : ℕ) (precise : 1 ≤ p) (cell : Cell p b n e s left)
 
   -- a size of the precision has nothing left
   pub cell_exact : Shaped p b n → left ≡ 0
-  cell_exact shaped = ⊎_elim (λ l. omega arith) (λ l. omega arith) (nothing_between n shaped)
+  cell_exact shaped =
+      let apart = nothing_between n shaped in
+      let c = cell in
+      search rules
 
 -- a size and a larger one: the neighbour above is at most the neighbour below, or both lie between the same two
-pub cell_order : (p b n e s left n' e' s' left' : ℕ) → 1 ≤ p → Cell p b n e s left → Cell p b n' e' s' left' → e ≤ e' → n ≤ n' → (s * 2 ^ e + 2 ^ e ≤ s' * 2 ^ e') ⊎ ((e ≡ e') × (s ≡ s') × (left ≤ left'))
-cell_order p b n e s left n' e' s' left' h cell cell' ee le =
+pub cell_order : {p b n e s left n' e' s' left' : ℕ} → 1 ≤ p → Cell p b n e s left → Cell p b n' e' s' left' → e ≤ e' → n ≤ n' → (s * 2 ^ e + 2 ^ e ≤ s' * 2 ^ e') ⊎ ((e ≡ e') × (s ≡ s') × (left ≤ left'))
+cell_order {p} {b} {n} {e} {s} {left} {n'} {e'} {s'} {left'} h cell cell' ee le =
     ⊎_elim
     (λ lt.
     let be : b < e' = omega arith in
     let short : suc s ≤ 2 ^ p = cell.short in
-    inl (omega (arith, passes p (suc s) e e' h short lt, suc-mul s (2 ^ e), cell_full p b n' e' s' left' h cell' be)))
+    inl (omega (arith, passes p (suc s) e e' h short lt, suc-mul s (2 ^ e), cell_full h cell' be)))
     (λ ge.
     let x : e ≡ e' = omega arith in
     let y : 2 ^ e ≡ 2 ^ e' = ap (λ z. 2 ^ z) x in

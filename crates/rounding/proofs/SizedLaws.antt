@@ -42,15 +42,6 @@ pub rounded_ways : (m : Meaning) (rule : Rule) (negative : Bool) (n : ℕ) → T
 unfolding rounded goes_away
 rounded_ways m rule negative n = search rules
 
-pub below_half : (l h : ℕ) → l < h → remainder_of l h ≡ BelowHalf
-below_half l h lt = search rules
-
-pub at_half : (l h : ℕ) → l ≡ h → remainder_of l h ≡ Half
-at_half l h e = search rules
-
-pub above_half : (l h : ℕ) → h < l → remainder_of l h ≡ AboveHalf
-above_half l h lt = search rules
-
 module _ (rule : Rule) (negative odd : Bool) where
   -- where the rule is nearest, it says "toward" only up to the half, and "away" only from there
   toward_half : (l h : ℕ) → NearestAt rule negative odd → rule.away negative odd (remainder_of l h) ≡ false → l ≤ h
@@ -58,9 +49,6 @@ module _ (rule : Rule) (negative odd : Bool) where
 
   away_half : (l h : ℕ) → NearestAt rule negative odd → rule.away negative odd (remainder_of l h) ≡ true → h ≤ l
   away_half l h nearest e = search rules
-
-  from_below : Monotone rule → rule.away negative odd BelowHalf ≡ true → (r : Remainder) → rule.away negative odd r ≡ true
-  from_below mono e y2 = search rules
 
   -- a larger remainder is never turned back
   away_rises : (l l' h : ℕ) → Monotone rule → l ≤ l' → rule.away negative odd (remainder_of l h) ≡ true → rule.away negative odd (remainder_of l' h) ≡ true
@@ -83,42 +71,30 @@ module _ (m : Meaning) (laws : Lawful m) where
 
   -- a significand of zero has the least exponent
   pub place_some : (n : ℕ) → (0 < significand_of m n) ⊎ (last_place m n ≡ bottom m.least + 64)
-  place_some n = ⊎_elim (λ f. inl (omega (arith, pow_pos (m.precision - 1)))) inr (place n).full
+  place_some n = let cell = place n in let some = pow_pos (m.precision - 1) in search rules
 
   between : (n v : ℕ) → Fine m v → (v ≤ lower m n) ⊎ (upper m n ≤ v)
-  between n = nothing_between m.precision (bottom m.least + 64) n (last_place m n) (significand_of m n) (left_of m n) precise (place n)
+  between n = nothing_between precise (place n)
 
   pub largest_fine : Fine m (m.largest * 2 ^ 64)
   largest_fine = shaped_finer m.precision (bottom m.least) m.largest laws.largest_read.0
 
   module _ (rule : Rule) (negative : Bool) where
     pub rounded_fine : (n : ℕ) → Fine m (rounded m rule negative n)
-    rounded_fine n =
-        ⊎_elim
-        (λ t. rw t.0 (lower_shaped m.precision (bottom m.least + 64) n (last_place m n) (significand_of m n) (left_of m n) precise (place n)))
-        (λ t. rw t.0 (upper_shaped m.precision (bottom m.least + 64) n (last_place m n) (significand_of m n) (left_of m n) precise (place n)))
-        (rounded_ways m rule negative n)
+    rounded_fine n = let lower = lower_shaped precise (place n) in let upper = upper_shaped precise (place n) in let w = rounded_ways m rule negative n in search rules
 
     pub rounded_exact : (n : ℕ) → Fine m n → rounded m rule negative n ≡ n
-    rounded_exact n fine =
-        let z = cell_exact m.precision (bottom m.least + 64) n (last_place m n) (significand_of m n) (left_of m n) precise (place n) fine in
-        let is = (place n).is in
-        ⊎_elim (λ t. omega arith) (λ t. absurd (omega arith)) (rounded_ways m rule negative n)
+    rounded_exact n fine = let z = cell_exact precise (place n) fine in let is = (place n).is in let w = rounded_ways m rule negative n in search rules
 
     -- no size of the precision lies between a size and the rounded one
     pub rounded_most : (n v : ℕ) → Fine m v → n ≤ v → rounded m rule negative n ≤ v
-    rounded_most n v fine le =
-        let is = (place n).is in
-        ⊎_elim
-        (λ t. omega arith)
-        (λ t. ⊎_elim (λ l. absurd (omega arith)) (λ l. omega arith) (between n v fine))
-        (rounded_ways m rule negative n)
+    rounded_most n v fine le = let apart = between n v fine in let is = (place n).is in let w = rounded_ways m rule negative n in search rules
 
     rounded-lower : (n : ℕ) → lower m n ≤ rounded m rule negative n
-    rounded-lower n = ⊎_elim (λ t. omega arith) (λ t. omega arith) (rounded_ways m rule negative n)
+    rounded-lower n = let w = rounded_ways m rule negative n in search rules
 
     rounded-upper : (n : ℕ) → rounded m rule negative n ≤ upper m n
-    rounded-upper n = ⊎_elim (λ t. omega arith) (λ t. omega arith) (rounded_ways m rule negative n)
+    rounded-upper n = let w = rounded_ways m rule negative n in search rules
 
     says_rises : Monotone rule → (n n' : ℕ) → last_place m n ≡ last_place m n' → significand_of m n ≡ significand_of m n' → left_of m n ≤ left_of m n' → says m rule negative n ≡ true → says m rule negative n' ≡ true
     says_rises mono n n' e s left away = search rules
@@ -127,25 +103,18 @@ module _ (m : Meaning) (laws : Lawful m) where
     rises_within mono n n' e s left =
         let lo : lower m n ≡ lower m n' = rw (e, s) refl in
         let unit : 2 ^ last_place m n ≡ 2 ^ last_place m n' = rw e refl in
-        ⊎_elim
-        (λ t. omega (arith, rounded-lower n'))
-        (λ t.
-        ⊎_elim
-        (λ u.
-        ⊎_elim
-        (λ z. absurd (omega arith))
-        (λ no. absurd (both_ways (says m rule negative n') no (says_rises mono n n' e s left t.2)))
-        u.1)
-        (λ u. omega arith)
-        (rounded_ways m rule negative n'))
-        (rounded_ways m rule negative n)
+        let w = rounded_ways m rule negative n in
+        let w' = rounded_ways m rule negative n' in
+        let rises = says_rises mono n n' e s left in
+        search rules
 
     pub rounded_rises : Monotone rule → (n n' : ℕ) → n ≤ n' → rounded m rule negative n ≤ rounded m rule negative n'
     rounded_rises mono n n' le =
-        ⊎_elim
-        (λ apart. omega (arith, rounded-upper n, rounded-lower n'))
-        (λ t. rises_within mono n n' t.0 t.1 t.2)
-        (cell_order m.precision (bottom m.least + 64) n (last_place m n) (significand_of m n) (left_of m n) n' (last_place m n') (significand_of m n') (left_of m n') precise (place n) (place n') (place_rises m n n' le) le)
+        let apart = cell_order precise (place n) (place n') (place_rises m n n' le) le in
+        let above = rounded-upper n in
+        let below = rounded-lower n' in
+        let within = rises_within mono n n' in
+        search rules
 
     -- how far the rounded size is, and that none is nearer
     pub gap : (n : ℕ) → NearestAt rule negative (is_odd (significand_of m n)) → (g : ℕ) × (rounded m rule negative n ≤ n + g) × (n ≤ rounded m rule negative n + g) × (g ≤ n) × ((v : ℕ) → Fine m v → (v + g ≤ n) ⊎ (n + g ≤ v))

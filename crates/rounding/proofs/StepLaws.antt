@@ -1,15 +1,13 @@
 -- Laws of the projection's steps.
-use Rattle.std.proofs.Common.{◌≡◌, ℕ, suc, ◌+◌, ◌-◌, ◌*◌, ◌/◌, ◌%◌, ◌^◌, ◌<◌, ◌≤◌, max, Bool, true, false, cond, not, None, ◌⊎◌, pos, ℤ, ◌*ℤ◌, nat_abs, sym, refl, ap, ◌∙◌, subst, ap₂, ⊎_elim, mod-lt, mul_assoc, suc-mul, add-one, arith, pow_pos, pow_mono, pow-add, shr_lt, rules}
+use Rattle.std.proofs.Common.{◌≡◌, ℕ, suc, ◌+◌, ◌-◌, ◌*◌, ◌/◌, ◌%◌, ◌^◌, ◌<◌, ◌≤◌, max, Bool, true, false, cond, not, None, ◌⊎◌, pos, ℤ, ◌*ℤ◌, sym, refl, ap, ◌∙◌, ap₂, ⊎_elim, mod-lt, mul_assoc, suc-mul, add-one, arith, pow_pos, pow_mono, pow-add, shr_lt, rules}
 use native.Mathlib.Nat.{max_comm}
 use lib.Count.{count_leading_zeros}
-use lib.Pow.{split, shl-shr}
-use lib.Signed.{non_neg}
+use lib.Pow.{shl-shr}
 use mir.Val.{bool_byte}
 use Rattle.std.proofs.lemmas.Nat.{leading_top, mul-le}
 use Rattle.std.proofs.lemmas.Int.{ints}
 use Rattle.std.specs.Option.{is_some}
-use Rattle.std.proofs.lemmas.Bool.Decides.{nat_tests}
-use Rattle.std.proofs.lemmas.Bool.{cases_lt, lt-ltb, le-ltb}
+use Rattle.std.proofs.lemmas.Bool.{cases_lt}
 use Rattle.layout.specs.Digits.{digits}
 use Rattle.layout.specs.Sizes.{bottom}
 use Rattle.layout.proofs.DigitLaws.{digits_below, pow_order}
@@ -17,7 +15,6 @@ use Rattle.layout.proofs.SizeLaws.{size_aligned}
 use Rattle.formats.specs.Meaning.{Meaning, Lawful, Coded}
 use Rattle.formats.specs.Readings.{fine}
 use Rattle.formats.specs.Value.{Value, finite, signed, finer}
-use Rattle.formats.specs.ValueLaws.{signed-*, signed_abs}
 use Rattle.sums.specs.Cuts.{CutAt}
 use Rattle.sums.specs.declared.magnitude.Cut.{Cut}
 use Rattle.rounding.specs.Answers.{Answers, IsPlaced, Settles, beside, cut_mark, cut_away}
@@ -27,14 +24,14 @@ use Rattle.rounding.specs.declared.answers.Mark.{Mark}
 use Rattle.rounding.specs.declared.answers.Mark.TheVariants.{Exact}
 use Rattle.rounding.specs.declared.answers.Saturation.{Saturation}
 use Rattle.rounding.specs.declared.project.Answer.{Answer}
-use Rattle.rounding.specs.declared.project.Placed.{Placed}
+use Rattle.rounding.specs.declared.placed.Placed.{Placed}
 use Rattle.rounding.proofs.CellLaws.{in_units}
 use Rattle.rounding.proofs.RoundLaws.{size_ways, answered_coded}
 use Rattle.rounding.proofs.SizedLaws.{largest_fine, rounded_most, place_some}
 
 -- ±s × 2^e as a finer ±n
 pub reads : (negative : Bool) (s e n k : ℕ) → s * 2 ^ e ≡ n * 2 ^ k → finite (signed negative (s * 2 ^ e)) ≡ finite (signed negative n *ℤ pos (2 ^ k))
-reads negative s e n k is = ap finite (ap (signed negative) is ∙ sym (signed-* negative n (2 ^ k)))
+reads negative s e n k is = search rules
 
 -- s × 2^e, shifted by k
 pub shifted : (s e k n : ℕ) → s * 2 ^ e ≡ n → s * 2 ^ (e + k) ≡ n * 2 ^ k
@@ -101,82 +98,77 @@ abbrev marked : Bool → ℕ → ℕ → Mark
 marked negative n k = mark_of (finite (signed negative n)) (finite (signed negative k))
 
 mark_inward : (negative : Bool) (n k : ℕ) → k * 2 ^ 64 < n → marked negative n k ≡ beside negative
-mark_inward true n k lt = rw (signed-* true k (2 ^ 64)) (grind (arith, ints))
-mark_inward false n k lt = rw (lt-ltb (k * 2 ^ 64) n lt) refl
+mark_inward negative n k lt = search rules
 
 mark_outward : (negative : Bool) (n k : ℕ) → n < k * 2 ^ 64 → marked negative n k ≡ beside (not negative)
-mark_outward true n k lt = rw (signed-* true k (2 ^ 64)) (grind (arith, ints))
-mark_outward false n k lt = rw (le-ltb (k * 2 ^ 64) n (omega arith), lt-ltb n (k * 2 ^ 64) lt) refl
+mark_outward negative n k lt = search rules
 
 mark_exact : (negative : Bool) (n k : ℕ) → n ≡ k * 2 ^ 64 → marked negative n k ≡ Exact
-mark_exact true n k e = rw (signed-* true k (2 ^ 64)) (grind (arith, ints))
-mark_exact false n k e = rw (le-ltb (k * 2 ^ 64) n (omega arith), le-ltb n (k * 2 ^ 64) (omega arith)) refl
+mark_exact negative n k e = search rules
 
 -- nothing is left below the cut, or something is
 left_ways : (n e : ℕ) (cut : Cut) → CutAt n e cut → ((n % 2 ^ e ≡ 0) × (cut.remainder ≡ None)) ⊎ ((0 < n % 2 ^ e) × (is_some cut.remainder ≡ true))
-left_ways n e cut is = rw is.remainder (grind (arith, nat_tests))
-
-picks : (away : Bool) (d : ℕ) → cond away (d + 1) d ≡ d + bool_byte away
-picks true d = refl
-picks false d = omega arith
+left_ways n e cut is = search rules
 
 -- a size cut at its last place
-module _ (m : Meaning) (laws : Lawful m) (rule : Rule) (negative : Bool) (n place : ℕ) (cut : Cut) (deep : 64 ≤ place) (at : place ≡ last_place m n) (is : CutAt n place cut) where
-  digits_are : significand_of m n ≡ cut.digits
+module _ (m : Meaning) (laws : Lawful m) (rule : Rule) (n : ℕ) (p : Placed) (at : p.place ≡ last_place m n) (is : CutAt n p.place p.cut) where
+  digits_are : significand_of m n ≡ p.cut.digits
   unfolding significand_of
-  digits_are = rw (sym at) (sym is.digits)
+  digits_are = search rules
 
-  away_is : goes_away m rule negative n ≡ cut_away rule negative cut
+  away_is : goes_away m rule p.negative n ≡ cut_away rule p.negative p.cut
   unfolding goes_away left_of significand_of
-  away_is = rw (sym at, is.remainder, is.digits) (search rules)
+  away_is = search rules
 
-  size_is : n ≡ cut.digits * 2 ^ place + n % 2 ^ place
-  size_is = rw is.digits (sym (split n place))
-
-  by_away : (away : Bool) (s : ℕ) → s ≡ cut.digits + bool_byte away → 0 < n % 2 ^ place → marked negative n (s * 2 ^ (place - 64)) ≡ beside (cond away (not negative) negative)
-  by_away true s e left =
-      let next : s * 2 ^ place ≡ cut.digits * 2 ^ place + 2 ^ place = rw (e, add-one cut.digits) (suc-mul cut.digits (2 ^ place)) in
-      let below : n % 2 ^ place < 2 ^ place = mod-lt n (pow_pos place) in
-      mark_outward negative n (s * 2 ^ (place - 64)) (omega (arith, in_units s place 64 deep, size_is))
-  by_away false s e left =
-      let same : s * 2 ^ place ≡ cut.digits * 2 ^ place = ap (λ x. x * 2 ^ place) (omega arith) in
-      mark_inward negative n (s * 2 ^ (place - 64)) (omega (arith, in_units s place 64 deep, size_is))
-
-  module _ (away : Bool) (s : ℕ) (aw : away ≡ cut_away rule negative cut) (e : s ≡ cut.digits + bool_byte away) where
-    rounded_is : rounded m rule negative n ≡ s * 2 ^ place
+  module _ (away : Bool) (s : ℕ) (aw : away ≡ cut_away rule p.negative p.cut) (e : s ≡ p.cut.digits + bool_byte away) where
+    rounded_is : rounded m rule p.negative n ≡ s * 2 ^ p.place
     unfolding rounded
-    rounded_is = rw (away_is, sym aw, sym at, digits_are, e) (ap (λ x. x * 2 ^ place) (picks away cut.digits))
+    rounded_is =
+        let picks : cond away (p.cut.digits + 1) p.cut.digits ≡ p.cut.digits + bool_byte away = search rules in
+        rw (away_is, sym aw, sym at, digits_are, e) (ap (λ x. x * 2 ^ p.place) picks)
 
-    mark_is : marked negative n (s * 2 ^ (place - 64)) ≡ cut_mark negative cut away
+    size_is : n ≡ p.cut.digits * 2 ^ p.place + n % 2 ^ p.place
+    size_is = grind (arith, ints)
+
+    by_away : (way : Bool) → way ≡ away → 0 < n % 2 ^ p.place → marked p.negative n (s * 2 ^ (p.place - 64)) ≡ beside (cond way (not p.negative) p.negative)
+    by_away true w left =
+        let next : s * 2 ^ p.place ≡ p.cut.digits * 2 ^ p.place + 2 ^ p.place = rw (e, sym w, add-one p.cut.digits) (suc-mul p.cut.digits (2 ^ p.place)) in
+        let below : n % 2 ^ p.place < 2 ^ p.place = mod-lt n (pow_pos p.place) in
+        mark_outward p.negative n (s * 2 ^ (p.place - 64)) (omega (arith, in_units s p.place 64 p.deep, size_is))
+    by_away false w left =
+        let same : s * 2 ^ p.place ≡ p.cut.digits * 2 ^ p.place = ap (λ x. x * 2 ^ p.place) (omega (arith, rw (sym w) at e)) in
+        mark_inward p.negative n (s * 2 ^ (p.place - 64)) (omega (arith, in_units s p.place 64 p.deep, size_is))
+
+    mark_is : marked p.negative n (s * 2 ^ (p.place - 64)) ≡ cut_mark p.negative p.cut away
     mark_is =
         ⊎_elim
         (λ none.
         let still : away ≡ false = aw ∙ rw none.1 refl in
-        let same : s * 2 ^ place ≡ cut.digits * 2 ^ place = ap (λ x. x * 2 ^ place) (omega (arith, rw still at e)) in
-        rw none.1 (mark_exact negative n (s * 2 ^ (place - 64)) (omega (arith, in_units s place 64 deep, size_is))))
-        (λ some. rw some.1 (by_away away s e some.0))
-        (left_ways n place cut is)
+        let same : s * 2 ^ p.place ≡ p.cut.digits * 2 ^ p.place = ap (λ x. x * 2 ^ p.place) (omega (arith, rw still at e)) in
+        rw none.1 (mark_exact p.negative n (s * 2 ^ (p.place - 64)) (omega (arith, in_units s p.place 64 p.deep, size_is))))
+        (λ some. rw some.1 (by_away away refl some.0))
+        (left_ways n p.place p.cut is)
 
-    pub settled : (mode : Saturation) (a : Answer) → s * 2 ^ place ≤ m.largest * 2 ^ 64 → fine a.reading ≡ finite (signed negative (s * 2 ^ (place + 32))) → a.mark ≡ cut_mark negative cut away → Answers (finite (signed negative n)) (of_size m rule mode negative n) a
+    pub settled : (mode : Saturation) (a : Answer) → s * 2 ^ p.place ≤ m.largest * 2 ^ 64 → fine a.reading ≡ finite (signed p.negative (s * 2 ^ (p.place + 32))) → a.mark ≡ cut_mark p.negative p.cut away → Answers (finite (signed p.negative n)) (of_size m rule mode p.negative n) a
     settled mode a most reading mark =
-        let k = s * 2 ^ (place - 64) in
-        let q : rounded m rule negative n / 2 ^ 64 ≡ k = ap (λ x. x / 2 ^ 64) (rounded_is ∙ in_units s place 64 deep) ∙ shl-shr k 64 in
-        let v : of_size m rule mode negative n ≡ finite (signed negative k) =
-        ⊎_elim (λ t. t.1 ∙ ap (λ x. finite (signed negative x)) q) (λ t. absurd (omega (arith, rounded_is))) (size_ways m rule mode negative n) in
-        let x : place + 32 ≡ place - 64 + 96 = omega arith in
-        let up : s * 2 ^ (place + 32) ≡ k * 2 ^ 96 = rw x (shifted s (place - 64) 96 k refl) in
-        rw v (record { reading = reading ∙ reads negative s (place + 32) k 96 up; mark = mark ∙ sym mark_is })
+        let k = s * 2 ^ (p.place - 64) in
+        let q : rounded m rule p.negative n / 2 ^ 64 ≡ k = omega (arith, rounded_is, in_units s p.place 64 p.deep) in
+        let v : of_size m rule mode p.negative n ≡ finite (signed p.negative k) =
+        ⊎_elim (λ t. t.1 ∙ ap (λ x. finite (signed p.negative x)) q) (λ t. absurd (omega (arith, rounded_is))) (size_ways m rule mode p.negative n) in
+        let x : p.place + 32 ≡ p.place - 64 + 96 = omega (arith, p.deep) in
+        let up : s * 2 ^ (p.place + 32) ≡ k * 2 ^ 96 = rw x (shifted s (p.place - 64) 96 k refl) in
+        rw v (record { reading = reading ∙ reads p.negative s (p.place + 32) k 96 up; mark = mark ∙ sym mark_is })
 
-    some_digits : 128 ≤ place → 0 < s
+    some_digits : 128 ≤ p.place → 0 < s
     some_digits far =
         ⊎_elim (λ l. omega (arith, digits_are)) (λ b. absurd (omega (arith, bottom_below m laws))) (place_some m laws n)
 
-    pub overflown : (mode : Saturation) (a : Answer) → ((128 ≤ place → 0 < s) → m.largest * 2 ^ 64 < s * 2 ^ place) → ((k : ℕ) → m.largest * 2 ^ 64 < k → Answers (finite (signed negative k)) (of_overflow m rule mode negative) a) → Answers (finite (signed negative n)) (of_size m rule mode negative n) a
+    pub overflown : (mode : Saturation) (a : Answer) → ((128 ≤ p.place → 0 < s) → m.largest * 2 ^ 64 < s * 2 ^ p.place) → ((k : ℕ) → m.largest * 2 ^ 64 < k → Answers (finite (signed p.negative k)) (of_overflow m rule mode p.negative) a) → Answers (finite (signed p.negative n)) (of_size m rule mode p.negative n) a
     overflown mode a far answers =
-        let past : m.largest * 2 ^ 64 < rounded m rule negative n = rw rounded_is (far some_digits) in
-        let beyond : m.largest * 2 ^ 64 < n =
-        ⊎_elim (λ l. l) (λ le. absurd (omega (arith, rounded_most m laws rule negative n (m.largest * 2 ^ 64) (largest_fine m laws) le))) (cases_lt (m.largest * 2 ^ 64) n) in
-        let v : of_size m rule mode negative n ≡ of_overflow m rule mode negative = ⊎_elim (λ t. absurd (omega arith)) (λ t. t.1) (size_ways m rule mode negative n) in
+        let past : m.largest * 2 ^ 64 < rounded m rule p.negative n = rw rounded_is (far some_digits) in
+        let most = rounded_most m laws rule p.negative n (m.largest * 2 ^ 64) (largest_fine m laws) in
+        let beyond : m.largest * 2 ^ 64 < n = ⊎_elim (λ l. l) (λ le. absurd (omega (arith, most le))) (cases_lt (m.largest * 2 ^ 64) n) in
+        let v : of_size m rule mode p.negative n ≡ of_overflow m rule mode p.negative = ⊎_elim (λ t. absurd (omega arith)) (λ t. t.1) (size_ways m rule mode p.negative n) in
         rw v (answers n beyond)
 
 -- the code and the mark of an answer
@@ -186,8 +178,4 @@ projected_is m rule mode x a code laws is coded =
 
 -- the answer for a finite value is that for its sign and its size
 pub finite_answers : (m : Meaning) (rule : Rule) (mode : Saturation) (v : Value) (x : ℤ) (p : Placed) (a : Answer) → v ≡ finite x → IsPlaced m v p → Settles m rule mode p a → Answers v (answered m rule mode v) a
-finite_answers m rule mode v x p a e is settles =
-    let placed : IsPlaced m (finite x) p = rw e at is in
-    rw e
-    (subst (λ y. Answers (finite y) (of_size m rule mode (not (non_neg x)) (nat_abs x)) a) (signed_abs x)
-    (subst (λ y. Answers (finite (signed y (nat_abs x))) (of_size m rule mode y (nat_abs x)) a) placed.negative (settles (nat_abs x) placed.place placed.cut)))
+finite_answers m rule mode v x p a e is settles = search rules

@@ -1,5 +1,5 @@
 -- What the steps of the projection answer.
-use Rattle.std.specs.Prelude.{◌≡◌, ℕ, ◌^◌, ◌<◌, ◌≤◌, Bool, false, not, cond, Some, None}
+use Rattle.std.specs.Prelude.{◌≡◌, ℕ, Bool, false, not, cond, Some, None}
 use Rattle.std.specs.Option.{is_some}
 use Rattle.formats.specs.Meaning.{Meaning}
 use Rattle.formats.specs.Readings.{fine}
@@ -13,7 +13,7 @@ use Rattle.rounding.specs.declared.answers.Mark.{Mark}
 use Rattle.rounding.specs.declared.answers.Mark.TheVariants.{Exact, Low, High}
 use Rattle.rounding.specs.declared.answers.Saturation.{Saturation}
 use Rattle.rounding.specs.declared.project.Answer.{Answer}
-use Rattle.rounding.specs.declared.project.Placed.{Placed}
+use Rattle.rounding.specs.declared.placed.Placed.{Placed}
 
 -- the reading v and the mark that it gets beside x
 pub record Answers (x v : Value) (a : Answer) : Type 0 where
@@ -37,8 +37,6 @@ pub record IsPlaced (m : Meaning) (v : Value) (p : Placed) : Type 0 where
   pub negative : p.negative ≡ below_zero v
   pub place : p.place ≡ last_place m (size_of v)
   pub cut : CutAt (size_of v) p.place p.cut
-  pub deep : 64 ≤ p.place
-  pub short : p.cut.digits < 2 ^ 12
 
 -- the answer for any size that is so cut at its last place
 abbrev pub Settles : Meaning → Rule → Saturation → Placed → Answer → Type 0

@@ -3,6 +3,7 @@
 
 pub mod answers;
 pub mod modes;
+mod placed;
 pub mod project;
 pub mod rule;
 pub mod rules;

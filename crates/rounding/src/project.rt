@@ -11,10 +11,11 @@ ghost use Rattle.rounding.specs.Projection.{last_place, end, of_infinity, of_ove
 ghost use Rattle.rounding.specs.Rule.{Nearest};
 
 use crate::answers::{Mark, Saturation};
+use crate::placed::Placed;
 use crate::rule::RoundingRule;
 use formats::format::Format;
 use formats::reading::{Dyadic, Reading};
-use sums::magnitude::{Cut, Magnitude};
+use sums::magnitude::Magnitude;
 use sums::sum::Sum;
 
 // The code and the mark of the sum's projection into the format. Where the rule goes to the nearer
@@ -41,14 +42,6 @@ struct Target<'a, F, R> {
     format: &'a F,
     rule: &'a R,
     mode: Saturation,
-}
-
-// The sign and the size of a sum, which is cut at the place of the last digit, counted from 2^-96.
-#[derive(Clone, Copy)]
-pub(crate) struct Placed {
-    pub(crate) negative: bool,
-    pub(crate) place: u32,
-    pub(crate) cut: Cut,
 }
 
 // A reading, and how it lies to the exact value.
@@ -88,7 +81,7 @@ impl<F: Format, R: RoundingRule> Target<'_, F, R> {
                 reading: self.end(negative),
                 mark: beside(negative),
             },
-            _ => Answer {
+            Saturation::SatPropagate | Saturation::OvfInf => Answer {
                 reading: infinity(negative),
                 mark: Mark::Exact,
             },
@@ -97,7 +90,6 @@ impl<F: Format, R: RoundingRule> Target<'_, F, R> {
 
     // The answer for a finite value that is so cut at its last place.
     fn of_size(&self, size: &Placed) -> Answer
-        requires { (64 ≤ size.now.place) × (size.now.cut.digits < 2 ^ 12) }
         ensures { Settles (F.Format.meaning self.now.format.now) (R.RoundingRule.table self.now.rule.now) self.now.mode size.now result }
     {
         let away = self.goes_away(size);

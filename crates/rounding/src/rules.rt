@@ -12,6 +12,7 @@ pub struct NearestTiesToEven;
 #[derive(Clone, Copy)]
 pub struct NearestTiesToAway;
 
+// Two structs and not one with a const parameter: an alias of that one would be no value in Rust.
 #[derive(Clone, Copy)]
 pub struct TowardPositive;
 
@@ -143,6 +144,7 @@ impl TryFrom<u8> for AnyRule {
     }
 }
 
+// Two matches: one that hands out the rule as a `dyn` value is not allowed here.
 impl RoundingRule for AnyRule {
     ghost table = { table_of };
 

@@ -1,4 +1,4 @@
-use Rattle.std.proofs.Common.{◌≡◌, ◌+◌, ◌-◌, max, ◌∙◌, ap₂, arith}
+use Rattle.std.proofs.Common.{◌≡◌, ◌+◌, ◌-◌, arith}
 use Rattle.layout.specs.Sizes.{bottom}
 use Rattle.std.proofs.lemmas.Int.{ints}
 use Rattle.sums.specs.Words.{number}
@@ -15,5 +15,5 @@ returns g c =
     omega (arith, c.saturating_sub-full.ensures, c.from-2.ensures, c.shape-shape.ensures.precision) in
     let (place, low, high, fits) =
     place_is m laws (number c.args.size.now.words) c.bit_length.result c.max.result c.bit_length.ensures.0 c.bit_length.ensures.1
-    (c.max.ensures ∙ ap₂ max full least) in
+    (omega (arith, c.max.ensures, full, least)) in
     record { place = place; bounds = (low, high); fits = fits }

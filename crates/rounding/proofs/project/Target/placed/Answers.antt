@@ -4,6 +4,10 @@ use Rattle.sums.specs.Cuts.{CutAt}
 use Rattle.sums.specs.Words.{number}
 use Rattle.rounding.proofs.project.Target.placed.Goals as goal
 
+pub invariant_of-result-clause-short : goal.invariant_of-result-clause-short
+invariant_of-result-clause-short g c =
+    omega (arith, c.cut.ensures.digits, shr_below (number c.magnitude-size.result.words) 12 c.last_place-place.result c.last_place-place.ensures.fits)
+
 pub returns : goal.returns
 returns g c =
     let is = c.magnitude-size.ensures in
@@ -12,6 +16,4 @@ returns g c =
       negative = c.is_negative.ensures;
       place = rw (sym is) c.last_place-place.ensures.place;
       cut = subst (λ n. CutAt n place c.cut.result) is c.cut.ensures;
-      deep = c.last_place-place.ensures.bounds.0;
-      short = omega (arith, c.cut.ensures.digits, shr_below (number c.magnitude-size.result.words) 12 place c.last_place-place.ensures.fits);
     }
