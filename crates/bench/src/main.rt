@@ -19,39 +19,32 @@ The status is 0 where the sheet was judged, fault or not, and 1 where reading or
 ";
 
 // One byte more than a sheet may have, which tells that it has too many.
-const KEPT: usize = 65_537;
+const KEPT: u64 = 65_537;
 
 fn main(rt: HostRuntime) -> anyhow::Result<()> {
     run(&rt)
 }
 
 fn run(rt: &HostRuntime) -> anyhow::Result<()> {
-    for word in env::args(rt)?.skip(1) {
-        if word.as_str() == "--help" {
-            return print(rt, HELP.as_bytes());
+    match env::args(rt)?.nth(1) {
+        None => {
+            let sheet = input(rt)?;
+            let report = printed(rt.alloc(), sheet.as_slice())?;
+            print(rt, report.as_slice())
         }
-        return Err(anyhow!(
+        Some(word) if word.as_str() == "--help" => print(rt, HELP.as_bytes()),
+        Some(_) => Err(anyhow!(
             "an argument that is not --help; the sheet is read from standard input"
-        ));
+        )),
     }
-    let sheet = input(rt)?;
-    let report = printed(rt.alloc(), sheet.as_slice())?;
-    print(rt, report.as_slice())
 }
 
 // Standard input to its end; what is past the first bytes is read and let go.
 fn input(rt: &HostRuntime) -> anyhow::Result<Vec<u8>> {
     let mut sheet = Vec::new(rt.alloc());
     let mut stdin = rt.stdin();
-    for _ in 0..u64::MAX {
-        let mut buffer = [0u8; 1024];
-        let count = stdin.read(&mut buffer)?;
-        if count == 0 {
-            break;
-        }
-        let room = KEPT.saturating_sub(sheet.len());
-        sheet.extend_from_slice(&buffer[..count.min(room)])?;
-    }
+    stdin.by_ref().take(KEPT).read_to_end(&mut sheet)?;
+    io::copy(&mut stdin, &mut io::sink())?;
     Ok(sheet)
 }
 

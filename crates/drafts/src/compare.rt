@@ -9,30 +9,20 @@ use formats::reading::Dyadic;
 pub(crate) fn equals(number: &Number, value: &Dyadic) -> bool
     ensures { result ≡ true → Equals number.now value.now }
 {
-    match sides(number, value) {
-        Some((left, right)) => number.negative == value.negative && left == right,
-        None => false,
-    }
+    sides(number, value).is_some_and(|(left, right)| number.negative == value.negative
+        && left == right)
 }
 
 // Whether the number is off by at most one part of the value in `parts`.
 pub(crate) fn near(number: &Number, value: &Dyadic, parts: u32) -> bool
     ensures { result ≡ true → Near number.now value.now parts }
 {
-    match sides(number, value) {
-        Some((left, right)) => {
-            let off = if left < right {
-                right - left
-            } else {
-                left - right
-            };
-            match off.checked_mul(u128::from(parts)) {
-                Some(scaled) => number.negative == value.negative && scaled <= right,
-                None => false,
-            }
-        }
-        None => false,
-    }
+    let Some((left, right)) = sides(number, value) else {
+        return false;
+    };
+    left.abs_diff(right)
+        .checked_mul(u128::from(parts))
+        .is_some_and(|off| number.negative == value.negative && off <= right)
 }
 
 // Two whole numbers in the proportion of the two sizes.

@@ -6,8 +6,7 @@ mod printed;
 mod survey;
 mod tables;
 
-use anyhow::anyhow;
-use std::io;
+use anyhow::ensure;
 use tables::Tally;
 
 // The value tables are named by their report and format.
@@ -29,23 +28,15 @@ const FILES: [&str; 14] = [
 ];
 
 fn run(rt: &HostRuntime) -> anyhow::Result<()> {
-    let mut all = Tally::new();
+    let mut all = Tally::default();
     for file in &FILES {
         let tally = tables::compared(rt, file)?;
-        report(rt, file, &tally)?;
+        println!(rt; "{file}: {tally}")?;
         all.join(&tally);
     }
-    report(rt, "all", &all)?;
-    if all.agreed < all.rows {
-        return Err(anyhow!("a figure of the reports disagrees"));
-    }
+    println!(rt; "all: {all}")?;
+    ensure!(all.agreed >= all.rows, "a figure of the reports disagrees");
     Ok(())
-}
-
-fn report(rt: &HostRuntime, name: &str, tally: &Tally) -> io::Result<()> {
-    let agreed = tally.agreed;
-    let rows = tally.rows;
-    println!(rt; "{name}: {agreed} of {rows} rows agree")
 }
 
 fn main(rt: HostRuntime) -> anyhow::Result<()> {

@@ -28,10 +28,8 @@ pub(crate) fn decimal(text: &str) -> Option<Number> {
 
 // Whether the number is below zero, and its size.
 fn signed(text: &str) -> (bool, &str) {
-    match text.strip_prefix('-') {
-        Some(size) => (true, size),
-        None => (false, text),
-    }
+    text.strip_prefix('-')
+        .map_or((false, text), |size| (true, size))
 }
 
 // The number before an `E` or `e`, and the power of ten after it.
@@ -44,27 +42,20 @@ fn powered(text: &str) -> Option<(&str, i32)> {
 
 // The decimal digits of the text after those that have been read.
 fn digits(before: u64, text: &str) -> Option<u64> {
-    let mut all = before;
-    for c in text.chars() {
-        let digit = u64::from(c.to_digit(10)?);
-        all = all.checked_mul(10)?.checked_add(digit)?;
-    }
-    Some(all)
+    text.chars().try_fold(before, |all, c| {
+        all.checked_mul(10)?.checked_add(u64::from(c.to_digit(10)?))
+    })
 }
 
 // As `1*2^-32` or `31/16*2^-2`.
 pub(crate) fn binary(text: &str) -> Option<Number> {
     let (size, power) = parted(text, '*');
     let twos = power.strip_prefix("2^")?.parse::<i16>().ok()?;
-    let (numerator, denominator) = parted(size, '/');
+    let (numerator, denominator) = size.split_once('/').unwrap_or((size, "1"));
     Some(Number {
         negative: false,
-        numerator: digits(0, numerator)?,
-        denominator: if denominator.is_empty() {
-            1
-        } else {
-            digits(0, denominator)?
-        },
+        numerator: numerator.parse::<u64>().ok()?,
+        denominator: denominator.parse::<u64>().ok()?,
         tens: 0,
         twos,
     })
@@ -72,8 +63,5 @@ pub(crate) fn binary(text: &str) -> Option<Number> {
 
 // The text before the mark and after it, which is empty where there is no mark.
 pub(crate) fn parted(text: &str, mark: char) -> (&str, &str) {
-    match text.split_once(mark) {
-        Some(parts) => parts,
-        None => (text, ""),
-    }
+    text.split_once(mark).unwrap_or((text, ""))
 }

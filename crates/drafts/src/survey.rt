@@ -1,18 +1,17 @@
 // How many values of each kind a format has, and the least and greatest of them.
 use formats::any::AnyFormat;
-use formats::fault::Fault;
 use formats::format::Format;
 use formats::reading::{Dyadic, Reading};
 
 // Values of one kind that are above zero: how many there are, the least and the greatest.
-#[derive(Clone, Copy)]
+#[derive(Clone, Copy, Default)]
 pub(crate) struct Kind {
     pub(crate) count: u32,
     pub(crate) least: Option<Dyadic>,
     pub(crate) greatest: Option<Dyadic>,
 }
 
-#[derive(Clone, Copy)]
+#[derive(Clone, Copy, Default)]
 pub(crate) struct Survey {
     pub(crate) total: u32,
     // Zero, the infinities and NaN.
@@ -53,83 +52,55 @@ impl Survey {
             _ => None,
         }
     }
-}
 
-const NONE: Kind = Kind {
-    count: 0,
-    least: None,
-    greatest: None,
-};
+    // A normal value has `precision` digits.
+    fn note(&mut self, precision: u8, reading: Reading) {
+        self.total = self.total.saturating_add(1);
+        let value = match reading {
+            Reading::Finite(value) if value.significand > 0 => value,
+            _ => {
+                self.specials = self.specials.saturating_add(1);
+                return;
+            }
+        };
+        let normal = value.significand.ilog2() + 1 >= u32::from(precision);
+        if value.negative {
+            self.negatives = self.negatives.saturating_add(1);
+            if !normal {
+                self.negative_subnormals = self.negative_subnormals.saturating_add(1);
+            }
+        } else if normal {
+            self.normal.note(value);
+        } else {
+            self.subnormal.note(value);
+        }
+    }
+}
 
 impl Kind {
     fn note(&mut self, value: Dyadic) {
         self.count = self.count.saturating_add(1);
-        self.least = Some(lesser(self.least, value));
-        self.greatest = Some(greater(self.greatest, value));
-    }
-}
-
-fn lesser(seen: Option<Dyadic>, value: Dyadic) -> Dyadic {
-    match seen {
-        Some(least) if units(&least) < units(&value) => least,
-        _ => value,
-    }
-}
-
-fn greater(seen: Option<Dyadic>, value: Dyadic) -> Dyadic {
-    match seen {
-        Some(greatest) if units(&value) < units(&greatest) => greatest,
-        _ => value,
+        let least = self.least.filter(|least| units(least) < units(&value));
+        let greatest = self.greatest.filter(|most| units(most) > units(&value));
+        self.least = Some(least.unwrap_or(value));
+        self.greatest = Some(greatest.unwrap_or(value));
     }
 }
 
 // The size in units of 2^-32: a format's values are whole numbers of them, below 2^64.
 fn units(value: &Dyadic) -> u128 {
-    let places = (i16::from(value.exponent) + 128) as u32;
+    let places = u32::from(value.exponent.abs_diff(i8::MIN));
     u128::from(value.significand)
         .checked_shl(places.saturating_sub(96))
         .unwrap_or(u128::MAX)
 }
 
-pub(crate) fn survey_of(format: &AnyFormat) -> Result<Survey, Fault> {
-    let shape = format.shape();
-    let mut all = Survey {
-        total: 0,
-        specials: 0,
-        negatives: 0,
-        negative_subnormals: 0,
-        subnormal: NONE,
-        normal: NONE,
-    };
-    for code in 0..=u16::MAX {
-        if u32::from(code) >> shape.width.min(16) != 0 {
-            break;
-        }
-        note(&mut all, shape.precision, format.decode(code)?);
+// A format refuses the first code past its last.
+pub(crate) fn survey_of(format: &AnyFormat) -> Survey {
+    let precision = format.shape().precision;
+    let mut all = Survey::default();
+    for reading in (0..=u16::MAX).map_while(|code| format.decode(code).ok()) {
+        all.note(precision, reading);
     }
-    Ok(all)
-}
-
-// A normal value has `precision` digits.
-fn note(all: &mut Survey, precision: u8, reading: Reading) {
-    all.total = all.total.saturating_add(1);
-    let value = match reading {
-        Reading::Finite(value) if value.significand > 0 => value,
-        _ => {
-            all.specials = all.specials.saturating_add(1);
-            return;
-        }
-    };
-    let digits = 16u32.saturating_sub(value.significand.leading_zeros());
-    let normal = digits >= u32::from(precision);
-    if value.negative {
-        all.negatives = all.negatives.saturating_add(1);
-        if !normal {
-            all.negative_subnormals = all.negative_subnormals.saturating_add(1);
-        }
-    } else if normal {
-        all.normal.note(value);
-    } else {
-        all.subnormal.note(value);
-    }
+    all
 }

@@ -5,20 +5,22 @@ use crate::{compare, printed};
 use formats::format::Format;
 use formats::reading::Reading;
 use names::from_name;
-use std::{fs, io};
+use std::{fmt, fs, io};
 
 // How many rows were read, and how many of them agree.
-#[derive(Clone, Copy)]
+#[derive(Clone, Copy, Default)]
 pub(crate) struct Tally {
     pub(crate) rows: u32,
     pub(crate) agreed: u32,
 }
 
-impl Tally {
-    pub(crate) fn new() -> Tally {
-        Tally { rows: 0, agreed: 0 }
+impl fmt::Display for Tally {
+    fn fmt<W: fmt::Write>(&self, f: &mut fmt::Formatter<W>) -> fmt::Result {
+        write!(f, "{} of {} rows agree", self.agreed, self.rows)
     }
+}
 
+impl Tally {
     pub(crate) fn join(&mut self, other: &Tally) {
         self.rows = self.rows.saturating_add(other.rows);
         self.agreed = self.agreed.saturating_add(other.agreed);
@@ -37,7 +39,7 @@ impl Tally {
 // Compares the rows of a file, and prints those that disagree.
 pub(crate) fn compared(rt: &HostRuntime, file: &str) -> io::Result<Tally> {
     let text = fs::read_to_string(rt, file)?;
-    let mut tally = Tally::new();
+    let mut tally = Tally::default();
     for row in text.lines() {
         tally.note(rt, agrees(file, row).unwrap_or(false), row)?;
     }
@@ -105,5 +107,5 @@ fn count_agrees(format: &str, name: &str, count: &str) -> Option<bool> {
 }
 
 fn surveyed(format: &str) -> Option<Survey> {
-    survey_of(&from_name(format)?).ok()
+    Some(survey_of(&from_name(format)?))
 }

@@ -1,14 +1,14 @@
 -- Binary16.
-use Rattle.std.specs.Prelude.{◌≡◌, ℕ, ◌+◌, ◌-◌, ◌*◌, ◌^◌, ◌<◌, ◌≤◌, Bool, true, false, ℤ, pos, neg_ℤ, ◌==◌, ◌≢◌, unsigned_abs, refl}
+use Rattle.std.specs.Prelude.{◌≡◌, ℕ, ◌+◌, ◌-◌, ◌*◌, ◌^◌, ◌<◌, ◌≤◌, Bool, true, false, cond, ℤ, pos, neg_ℤ, ◌==◌, ◌≢◌, unsigned_abs, refl}
 use Rattle.std.proofs.Common.{sym, ap, ◌∙◌, ⊎_elim, arith, lit<, lit≤}
 use Rattle.std.specs.Int.Signed.{le_z_yes}
 use Rattle.std.proofs.lemmas.Int.{ints}
-use Rattle.std.proofs.lemmas.Bool.{cases_lt, cond_both, lt-ltb, le-ltb}
+use Rattle.std.proofs.lemmas.Bool.{cases_lt, cond_both, lt-ltb, le-ltb, ne_eqb}
 use Rattle.layout.specs.Sizes.{size_at}
 use Rattle.formats.specs.Binary16.{magnitude, decode, binary16}
 use Rattle.formats.specs.Meaning.{Coded, Lawful}
 use Rattle.formats.specs.Value.{nan, infinite, finite, negated}
-use Rattle.formats.specs.SignLaws.{SignMagnitude, lawful}
+use Rattle.formats.specs.SignLaws.{IsSignMagnitude, HasSpecials, lawful}
 use Rattle.formats.specs.ValueLaws.{same_finite, not_infinite, not_nan, negated_twice}
 
 -- the readings, by where the code lies
@@ -51,7 +51,7 @@ pub largest_is : 65504 * 2 ^ 32 ≡ size_at 11 8 (0x7C00 - 1)
 unfolding size_at
 largest_is = refl
 
-pub laid : SignMagnitude binary16 0x8000 0x7C00
+pub laid : IsSignMagnitude binary16 0x8000 0x7C00
 laid = record {
   precise = lit≤ tt;
   short = lit≤ tt;
@@ -72,5 +72,26 @@ infinities : (negative : Bool) → Coded binary16 (infinite negative)
 infinities true = (lit< tt, refl)
 infinities false = (lit< tt, refl)
 
+-- past infinity's code there is no number
+nan_past : (k : ℕ) → 0x7C00 < k → magnitude k ≡ nan
+nan_past k lt = rw (le-ltb k 0x7C00 (omega arith), ne_eqb k 0x7C00 (λ e. omega arith)) refl
+
+past : (negative : Bool) (k : ℕ) → 0x7C00 < k → k < 0x8000 → decode (k + cond negative 0x8000 0) ≡ nan
+past true k lt short =
+    let x : k + 0x8000 - 0x8000 ≡ k = omega arith in
+    rw (le-ltb (k + 0x8000) 0x8000 (omega arith), x, nan_past k lt) refl
+past false k lt short = let x : k + 0 ≡ k = omega arith in rw (x, lt-ltb k 0x8000 short) (nan_past k lt)
+
+pub specials : HasSpecials binary16 0x8000 0x7C00 0x7E00
+unfolding size_at
+specials = record {
+  nan_code = refl;
+  nan_read = (lit< tt, refl);
+  infinite_code = λ negative. refl;
+  infinite_read = infinities;
+  past = past;
+  zero = λ _. refl;
+}
+
 pub binary16_lawful : Lawful binary16
-binary16_lawful = lawful binary16 0x8000 0x7C00 laid (lit≤ tt) (lit< tt, refl) infinities
+binary16_lawful = lawful binary16 0x8000 0x7C00 laid (lit≤ tt) 0x7E00 specials

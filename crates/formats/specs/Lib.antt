@@ -11,3 +11,4 @@ pub mod SignLaws
 pub mod ValueLaws
 pub mod P3109Laws
 pub mod OwnFacts
+pub mod Codings

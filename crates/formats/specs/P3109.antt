@@ -1,5 +1,5 @@
 -- The signed P3109 formats with infinities, by width K and precision P (IEEE P3109 interim report 3.0.2).
-use Rattle.std.specs.Prelude.{◌≡◌, ℕ, ◌+◌, ◌-◌, ◌*◌, ◌^◌, ◌<◌, ◌≤◌, true, false, cond, ℤ, pos, ◌-ℤ◌, ◌==◌, nat_lt}
+use Rattle.std.specs.Prelude.{ℕ, ◌+◌, ◌-◌, ◌^◌, ◌<◌, ◌≤◌, false, cond, ℤ, pos, ◌-ℤ◌, ◌==◌, nat_lt}
 use Rattle.layout.specs.Sizes.{bottom, size_at}
 use Rattle.formats.specs.Value.{Value, nan, infinite, finite, negated}
 use Rattle.formats.specs.Meaning.{Meaning}
@@ -42,9 +42,3 @@ p3109 k p = record {
   decode = decode k p;
   encode = encode k p;
 }
-
--- the readings that are no number, by the sign bit
-pub record Specials (k p sign : ℕ) : Type 0 where
-  pub nan : decode k p sign ≡ nan
-  pub positive : decode k p (sign - 1) ≡ infinite false
-  pub negative : decode k p (2 * sign - 1) ≡ infinite true

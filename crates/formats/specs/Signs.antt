@@ -1,10 +1,10 @@
 -- Codes of a sign bit over a magnitude.
-use Rattle.std.specs.Prelude.{◌≡◌, ℕ, ◌+◌, ◌*◌, ◌^◌, ◌<◌, Bool, cond, not, ◌&&◌, ℤ, pos, ◌+ℤ◌, Ok, Err, Result, ◌==◌, ◌≢◌, unsigned_abs}
+use Rattle.std.specs.Prelude.{◌≡◌, ℕ, ◌+◌, ◌*◌, ◌^◌, ◌<◌, Bool, cond, not, ◌&&◌, ℤ, pos, ◌+ℤ◌, Some, None, Option, ◌==◌, ◌≢◌, unsigned_abs}
 use Rattle.std.specs.Int.Signed.{non_neg}
-use Rattle.layout.specs.Sizes.{code_of, size_at}
+use Rattle.layout.specs.Layouts.{layout_size}
+use Rattle.layout.specs.Sizes.{code_of}
 use Rattle.layout.specs.declared.Size.{Size}
-use Rattle.formats.specs.Refusals.{Refuses}
-use Rattle.formats.specs.declared.fault.Fault.{Fault}
+use Rattle.layout.specs.declared.magnitudes.Layout.{Layout}
 use Rattle.formats.specs.declared.reading.Dyadic.{Dyadic}
 
 -- the code of z units of 2^-32: that of its size, and the sign bit where z is below zero
@@ -20,8 +20,8 @@ Joined negative z d =
 abbrev pub size_of : Dyadic → ℕ
 size_of d = d.significand * 2 ^ unsigned_abs (d.exponent +ℤ pos 128)
 
--- the code of a value over the first n magnitudes, or refusal 3 where no magnitude has its size
-abbrev pub SignCoded : ℕ → ℕ → ℕ → ℕ → Dyadic → Result ℕ Fault → Type 0
-SignCoded sign p b n d (Ok c) =
-    (k : ℕ) × (k < n) × (size_at p b k * 2 ^ 96 ≡ size_of d) × (c ≡ k + cond (d.negative && not (k == 0)) sign 0)
-SignCoded sign p b n d (Err f) = Refuses 3 0 f × ((k : ℕ) → k < n → size_at p b k * 2 ^ 96 ≢ size_of d)
+-- the code of a value over the magnitudes, or none where no magnitude has its size
+abbrev pub SignCoded : ℕ → Layout → Dyadic → Option ℕ → Type 0
+SignCoded sign l d (Some c) =
+    (k : ℕ) × (k < l.count) × (layout_size l k * 2 ^ 96 ≡ size_of d) × (c ≡ k + cond (d.negative && not (k == 0)) sign 0)
+SignCoded sign l d None = (k : ℕ) → k < l.count → layout_size l k * 2 ^ 96 ≢ size_of d

@@ -15,9 +15,6 @@ not_infinite v negative z e f = let n : ◌≡◌ {A = ℕ} 0 1 = cc in omega ar
 pub not_nan : (v : Value) (z : ℤ) → v ≡ nan → v ≢ finite z
 not_nan v z e f = let n : ◌≡◌ {A = ℕ} 0 1 = cc in omega arith
 
-pub not_both : (b : Bool) → b ≡ true → b ≢ false
-not_both b e f = let n : ◌≡◌ {A = ℕ} 0 1 = cc in omega arith
-
 pub negated_twice : (v : Value) → negated (negated v) ≡ v
 negated_twice nan = refl
 negated_twice (infinite true) = refl

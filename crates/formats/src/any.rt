@@ -18,12 +18,14 @@ pub enum AnyFormat {
     OfP3109(P3109),
 }
 
-impl AnyFormat {
-    // 0 is binary16, and 16 × K + P the P3109 format of width K and precision P; any other byte is
-    // refused (1).
-    pub fn from_byte(byte: u8) -> Result<AnyFormat, Fault>
-        ensures { ByByte byte result }
-    {
+// 0 is binary16, and 16 × K + P the P3109 format of width K and precision P; any other byte is
+// refused (1).
+impl TryFrom<u8> for AnyFormat {
+    type Error = Fault;
+
+    ghost try_from_gives = { ByByte };
+
+    fn try_from(byte: u8) -> Result<AnyFormat, Fault> {
         if byte == 0 {
             return Ok(AnyFormat::OfBinary16(Binary16));
         }

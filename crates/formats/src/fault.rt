@@ -1,5 +1,5 @@
 // Why the arithmetic layer refuses.
-#[derive(Clone, Copy, PartialEq, Eq)]
+#[derive(Clone, Copy, Debug, PartialEq, Eq)]
 pub enum Fault {
     NoSuchFormat,
     // The place is the code's first byte within its run of bytes.

@@ -1,14 +1,14 @@
 // The signed P3109 formats with infinities.
-ghost use Rattle.std.specs.Prelude.{◌≡◌, ℕ, ◌+◌, ◌-◌, ◌*◌, ◌^◌, ◌<◌, ◌≤◌, true, false, Ok, Err};
-ghost use Rattle.formats.specs.P3109.{Exists, bias, least, Specials, p3109};
-ghost use Rattle.formats.specs.Readings.{Decodes};
+ghost use Rattle.std.specs.Prelude.{◌≡◌, ◌+◌, ◌<◌, ◌≤◌, Ok, Err};
+ghost use Rattle.formats.specs.P3109.{Exists, bias, least, p3109};
+ghost use Rattle.formats.specs.Codings.{Means};
 ghost use Rattle.formats.specs.Refusals.{Refuses};
 ghost use Rattle.formats.specs.P3109Laws.{p3109_lawful};
 
 use crate::fault::Fault;
 use crate::format::{Format, Shape};
 use crate::reading::Reading;
-use crate::signs::{join, sign_coded};
+use crate::signs::SignMagnitude;
 use layout::Layout;
 
 // The format of `width` bits and `precision`: from 3 to 8 bits, and a precision from 2 to one less.
@@ -27,21 +27,10 @@ impl P3109 {
     pub fn new(width: u8, precision: u8) -> Result<P3109, Fault>
         ensures { elim result [ Ok f ↦ (f.width ≡ width) × (f.precision ≡ precision) | Err e ↦ Refuses 1 0 e × (Exists width precision → ⊥) ] }
     {
-        if width < 3 || width > 8 || precision < 2 || precision >= width {
-            return Err(Fault::NoSuchFormat);
+        match (width, precision) {
+            (3..=8, 2..) if precision < width => Ok(P3109 { width, precision }),
+            _ => Err(Fault::NoSuchFormat),
         }
-        Ok(P3109 { width, precision })
-    }
-
-    // The sign bit, which alone is the code of NaN; infinity's are the last codes of either sign.
-    fn sign(&self) -> u16
-        ensures is { result ≡ 2 ^ (self.now.width - 1) }
-        ensures least { 4 ≤ result }
-        ensures most { result ≤ 128 }
-        ensures double { 2 ^ self.now.width ≡ 2 * result }
-        ensures reads { Specials self.now.width self.now.precision result }
-    {
-        1 << (self.width - 1)
     }
 
     fn bias(&self) -> u8
@@ -56,29 +45,19 @@ impl P3109 {
         2 - (self.bias() + self.precision) as i8
     }
 
-    // The finite magnitudes: all codes below the sign bit but the last.
-    fn layout(&self) -> Layout
-        ensures precision { result.precision ≡ self.now.precision }
-        ensures least { result.least_exponent ≡ least self.now.width self.now.precision }
-        ensures count { result.count ≡ 2 ^ (self.now.width - 1) - 1 }
+    // The sign bit alone is the code of NaN, and infinity's are the last codes of either sign.
+    fn coding(&self) -> SignMagnitude
+        ensures { Means (p3109 self.now.width self.now.precision) result }
     {
-        Layout {
-            precision: self.precision,
-            least_exponent: self.least_exponent(),
-            count: self.sign() - 1,
-        }
-    }
-
-    // What a code other than NaN's reads as, by its sign and its magnitude.
-    fn signed(&self, negative: bool, magnitude: u16) -> Reading
-        requires { magnitude < 2 ^ (self.now.width - 1) }
-        ensures positive { negative ≡ false → Decodes (p3109 self.now.width self.now.precision) magnitude (Ok result) }
-        ensures negative { (c : ℕ) → negative ≡ true → 0 < magnitude → c ≡ 2 ^ (self.now.width - 1) + magnitude → Decodes (p3109 self.now.width self.now.precision) c (Ok result) }
-    {
-        match self.layout().at(magnitude) {
-            Some(size) => Reading::Finite(join(negative, size)),
-            None if negative => Reading::NegativeInfinity,
-            None => Reading::PositiveInfinity,
+        let sign = 1 << (self.width - 1);
+        SignMagnitude {
+            width: self.width,
+            magnitudes: Layout {
+                precision: self.precision,
+                least_exponent: self.least_exponent(),
+                count: sign - 1,
+            },
+            nan: sign,
         }
     }
 }
@@ -89,35 +68,14 @@ impl Format for P3109 {
     ghost lawful = { λ f. p3109_lawful f.width f.precision (f.wide, f.narrow, f.precise, f.short) };
 
     fn shape(&self) -> Shape {
-        Shape {
-            width: self.width,
-            precision: self.precision,
-            least_exponent: self.least_exponent(),
-            largest: self.layout().largest(),
-        }
+        self.coding().shape()
     }
 
     fn decode(&self, code: u16) -> Result<Reading, Fault> {
-        let sign = self.sign();
-        if code >= 2 * sign {
-            return Err(Fault::CodeTooLarge(0));
-        }
-        if code < sign {
-            Ok(self.signed(false, code))
-        } else if code == sign {
-            Ok(Reading::Nan)
-        } else {
-            Ok(self.signed(true, code - sign))
-        }
+        self.coding().decode(code)
     }
 
     fn encode(&self, reading: Reading) -> Result<u16, Fault> {
-        let sign = self.sign();
-        match reading {
-            Reading::Nan => Ok(sign),
-            Reading::PositiveInfinity => Ok(sign - 1),
-            Reading::NegativeInfinity => Ok(2 * sign - 1),
-            Reading::Finite(value) => sign_coded(&self.layout(), sign, value),
-        }
+        self.coding().encode(reading)
     }
 }

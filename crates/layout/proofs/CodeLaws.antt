@@ -1,11 +1,12 @@
 -- What the calls on a layout rest on.
-use Rattle.std.proofs.Common.{◌≡◌, ℕ, zero, suc, ◌+◌, ◌-◌, ◌*◌, ◌/◌, ◌%◌, ◌^◌, ◌<◌, ◌≤◌, max, ◌⊎◌, ℤ, pos, negsuc, ◌+ℤ◌, nat_abs, ◌≤ℤ◌, Some, None, Option, sym, refl, ap, ◌∙◌, inl, inr, ⊎_elim, mul-le-mul_right, mod-lt, mod-eq_of_lt, mul_assoc, lt_of_mul-lt-mul_right, zero-mul, le_of_mul-le-mul_right, arith, pow_pos, pow_mono, pow-add, shl_lt, w8, SFits, to_z, of_z}
+use Rattle.std.proofs.Common.{◌≡◌, ℕ, zero, suc, ◌+◌, ◌-◌, ◌*◌, ◌/◌, ◌%◌, ◌^◌, ◌<◌, ◌≤◌, max, ◌⊎◌, ℤ, pos, negsuc, ◌+ℤ◌, nat_abs, ◌≤ℤ◌, Bool, true, false, IsTrue, ◌↔◌, sym, refl, ap, ◌∙◌, inl, inr, ⊎_elim, mul-le-mul_right, mod-lt, mod-eq_of_lt, mul_assoc, lt_of_mul-lt-mul_right, zero-mul, le_of_mul-le-mul_right, arith, pow_pos, pow_mono, pow-add, shl_lt, w8, SFits, to_z, of_z}
 use native.Mathlib.Nat.{mul-mod_left, eq_of_mul-eq-mul_right}
 use lib.Pow.{shr_mono, split}
+use Rattle.std.specs.Bool.{then_some}
 use Rattle.std.proofs.lemmas.Int.{ints, to_z-of_z}
 use Rattle.std.proofs.lemmas.Bool.{cases_lt}
 use Rattle.layout.specs.Sizes.{bottom, of_fields, size_at}
-use Rattle.layout.specs.Codes.{Stands, InUnits, Placed, WholeShift, Divided}
+use Rattle.layout.specs.Codes.{Stands, InUnits, Placed, WholeShift}
 use Rattle.layout.specs.declared.Size.{Size}
 use Rattle.layout.proofs.DigitLaws.{pow_order}
 use Rattle.layout.proofs.SizeLaws.{twice, size_packed, size_shaped, size_below, size_aligned, size_injective}
@@ -96,10 +97,15 @@ shift_right s k from to lt is none =
     let e : to - from ≡ k = sym is in
     sym (lowered (s / 2 ^ k) to from (omega arith)) ∙ ap (λ x. s / 2 ^ k * 2 ^ x * 2 ^ from) e ∙ ap (λ x. x * 2 ^ from) whole
 
-pub shift_divided : (s k from to : ℕ) (r : Option ℕ) → from < to → k ≡ to - from → Divided s (2 ^ k) r → WholeShift s from to r
-shift_divided s k from to (Some t) lt is (none, e) = rw e (shift_right s k from to lt is none)
-shift_divided s k from to None lt is some =
-    λ t e. some (ap (λ x. x % 2 ^ k) (shift_odd s from to t lt e ∙ ap (λ x. t * 2 ^ x) (sym is)) ∙ mul-mod_left t (2 ^ k))
+-- s / unit, where that is whole
+pub shift_divided : (s from to unit : ℕ) (whole : Bool) → from < to → unit ≡ 2 ^ (to - from) → IsTrue whole ↔ (s % unit ≡ 0) → WholeShift s from to (then_some whole (s / unit))
+shift_divided s from to unit true lt is whole = rw is (shift_right s (to - from) from to lt refl (rw is at (whole.0 refl)))
+shift_divided s from to unit false lt is whole =
+    λ t same.
+    let multiple : s ≡ t * 2 ^ (to - from) = shift_odd s from to t lt same in
+    let z : s % unit ≡ 0 = rw (is, multiple) (mul-mod_left t (2 ^ (to - from))) in
+    let n : ◌≡◌ {A = ℕ} 0 1 = let b = whole.1 z in cc in
+    omega arith
 
 -- a multiple of 2^16 and more is no number of 16 bits but 0
 pub shift_past : (s t k : ℕ) → 0 < s → s < 2 ^ 16 → 16 ≤ k → s ≡ t * 2 ^ k → ⊥

@@ -34,9 +34,6 @@ pub digits_below : (n : ℕ) → n < 2 ^ digits n
 digits_below zero = rw digits_zero (omega arith)
 digits_below (suc n) = let r = range (suc n) (omega arith) in rw r.1 r.3
 
-pub digits_pos : (n : ℕ) → 0 < n → 0 < digits n
-digits_pos n h = let r = range n h in omega arith
-
 pub digits_reach : (n : ℕ) → 0 < n → 2 ^ (digits n - 1) ≤ n
 digits_reach n h = let r = range n h in let e : digits n - 1 ≡ r.0 = omega arith in rw e r.2
 

@@ -1,5 +1,5 @@
--- What the calls on a layout answer.
-use Rattle.std.specs.Prelude.{◌≡◌, ℕ, ◌+◌, ◌-◌, ◌*◌, ◌/◌, ◌%◌, ◌^◌, ◌<◌, ◌≤◌, ◌⊎◌, ℤ, pos, negsuc, ◌+ℤ◌, ◌≤ℤ◌, Some, None, Option, ◌≢◌, unsigned_abs}
+-- Sizes as a format writes them, and their places.
+use Rattle.std.specs.Prelude.{◌≡◌, ℕ, ◌+◌, ◌-◌, ◌*◌, ◌^◌, ◌<◌, ◌≤◌, ◌⊎◌, ℤ, pos, negsuc, ◌+ℤ◌, ◌≤ℤ◌, Some, None, Option, ◌≢◌, unsigned_abs}
 use Rattle.layout.specs.Sizes.{bottom, size_at}
 use Rattle.layout.specs.declared.Size.{Size}
 
@@ -18,22 +18,6 @@ pub record Normalized (p : ℕ) (q : ℤ) (significand : ℕ) (exponent : ℤ) :
 abbrev pub Stands : ℕ → ℤ → ℕ → Size → Type 0
 Stands p q c z = (fine_size z ≡ size_at p (bottom q) c * 2 ^ 96) × Normalized p q z.significand z.exponent
 
--- the same, where c is among the first n codes
-abbrev pub SizeAt : ℕ → ℤ → ℕ → ℕ → Option Size → Type 0
-SizeAt p q n c (Some z) = (c < n) × Stands p q c z
-SizeAt p q n c None = n ≤ c
-
--- the code among the first n that has the size, or none has it
-abbrev pub CodeFound : ℕ → ℤ → ℕ → Size → Option ℕ → Type 0
-CodeFound p q n z (Some c) = (c < n) × (size_at p (bottom q) c * 2 ^ 96 ≡ fine_size z)
-CodeFound p q n z None = (c : ℕ) → c < n → size_at p (bottom q) c * 2 ^ 96 ≢ fine_size z
-
--- the one code that has the size, were there codes without end, or none has it
-abbrev pub OneCode : ℕ → ℤ → Size → Option ℕ → Type 0
-OneCode p q z (Some c) =
-    (size_at p (bottom q) c * 2 ^ 96 ≡ fine_size z) × ((k : ℕ) → size_at p (bottom q) k * 2 ^ 96 ≡ fine_size z → k ≡ c)
-OneCode p q z None = (k : ℕ) → size_at p (bottom q) k * 2 ^ 96 ≢ fine_size z
-
 -- a size that is a number of 64 bits in units of 2^-32
 pub record InUnits (z : Size) : Type 0 where
   pub deep : negsuc 31 ≤ℤ z.exponent
@@ -51,8 +35,3 @@ pub record Placed (p b n place : ℕ) : Type 0 where
 abbrev pub WholeShift : ℕ → ℕ → ℕ → Option ℕ → Type 0
 WholeShift s from to (Some t) = t * 2 ^ to ≡ s * 2 ^ from
 WholeShift s from to None = (t : ℕ) → t * 2 ^ to ≢ s * 2 ^ from
-
--- s / unit, where that is whole
-abbrev pub Divided : ℕ → ℕ → Option ℕ → Type 0
-Divided s unit (Some t) = (s % unit ≡ 0) × (t ≡ s / unit)
-Divided s unit None = s % unit ≡ 0 → ⊥

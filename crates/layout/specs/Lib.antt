@@ -1,3 +1,4 @@
 pub mod Digits
 pub mod Sizes
 pub mod Codes
+pub mod Layouts

@@ -1,7 +1,7 @@
 // The finite magnitudes of a format: the codes from 0 up, with the size that each stands for.
 ghost use Rattle.std.specs.Prelude.{◌≡◌, ℕ, ◌+◌, ◌-◌, ◌*◌, ◌/◌, ◌%◌, ◌^◌, ◌<◌, ◌≤◌, pos, negsuc, ◌+ℤ◌, ◌≤ℤ◌, unsigned_abs};
-ghost use Rattle.layout.specs.Sizes.{bottom, size_at};
-ghost use Rattle.layout.specs.Codes.{fine_size, Stands, SizeAt, CodeFound, OneCode, InUnits, Placed, WholeShift, Divided};
+ghost use Rattle.layout.specs.Sizes.{bottom};
+ghost use Rattle.layout.specs.Codes.{fine_size, InUnits, WholeShift};
 
 use crate::Size;
 
@@ -20,59 +20,52 @@ pub struct Layout {
 }
 
 impl Layout {
+    ghost use Rattle.layout.specs.Layouts.{layout_size, StandsIn, SizeAt, CodeFound, OneCode, PlacedIn};
+
     // The size at a code, or None past the last.
     pub fn at(&self, code: u16) -> Option<Size>
-        ensures { SizeAt self.now.precision self.now.least_exponent self.now.count code result }
+        ensures { SizeAt self.now code result }
     {
-        if code < self.count {
-            Some(self.size(code))
-        } else {
-            None
-        }
+        (code < self.count).then(|| self.size(code))
     }
 
     // The size at the last code, in units of 2^-32.
     pub fn largest(&self) -> u64
-        ensures { result ≡ size_at self.now.precision (bottom self.now.least_exponent) (self.now.count - 1) }
+        ensures { result ≡ layout_size self.now (self.now.count - 1) }
     {
         units(self.size(self.count - 1))
     }
 
     // The code that has the size, or None where no code has it.
     pub fn find(&self, size: Size) -> Option<u16>
-        ensures { CodeFound self.now.precision self.now.least_exponent self.now.count size result }
+        ensures { CodeFound self.now size result }
     {
         let code = self.code_of(size)?;
-        if code < u32::from(self.count) {
-            Some(code as u16)
-        } else {
-            None
-        }
+        (code < u32::from(self.count)).then(|| code as u16)
     }
 
     // The code that would have the size, were there codes without end.
     fn code_of(&self, size: Size) -> Option<u32>
-        ensures { OneCode self.now.precision self.now.least_exponent size result }
+        ensures { OneCode self.now size result }
     {
         if size.significand == 0 {
             return Some(0);
         }
         let place = self.place(size);
         let significand = shifted(size.significand, biased(size.exponent), place)?;
-        let steps = u32::from(place - biased(self.least_exponent));
+        let steps = place - biased(self.least_exponent);
         Some(u32::from(significand) + steps * u32::from(self.hidden()))
     }
 
     // The place of the last digit of a size with `precision` digits, or the least exponent if that
     // is greater, counted from -128.
-    fn place(&self, size: Size) -> u16
+    fn place(&self, size: Size) -> u32
         requires { 0 < size.significand }
-        ensures { (Placed self.now.precision (bottom self.now.least_exponent) (fine_size size) result) × (result < 2 ^ 9) }
+        ensures { (PlacedIn self.now size result) × (result < 2 ^ 9) }
     {
-        let digits = 16 - size.significand.leading_zeros() as u16;
-        let above = biased(size.exponent) + digits;
+        let above = biased(size.exponent) + size.significand.ilog2() + 1;
         above
-            .saturating_sub(u16::from(self.precision))
+            .saturating_sub(u32::from(self.precision))
             .max(biased(self.least_exponent))
     }
 
@@ -86,35 +79,16 @@ impl Layout {
     // The size at a code: below 2^(precision - 1) the leading bit is not there.
     fn size(&self, code: u16) -> Size
         requires { code < self.now.count }
-        ensures stands { Stands self.now.precision self.now.least_exponent code result }
-        ensures small { InUnits result }
-    {
-        if code < self.hidden() {
-            self.subnormal(code)
-        } else {
-            self.normal(code)
-        }
-    }
-
-    fn subnormal(&self, code: u16) -> Size
-        requires known { code < self.now.count }
-        requires low { code < 2 ^ (self.now.precision - 1) }
-        ensures stands { Stands self.now.precision self.now.least_exponent code result }
-        ensures small { InUnits result }
-    {
-        Size {
-            significand: code,
-            exponent: self.least_exponent,
-        }
-    }
-
-    fn normal(&self, code: u16) -> Size
-        requires known { code < self.now.count }
-        requires high { 2 ^ (self.now.precision - 1) ≤ code }
-        ensures stands { Stands self.now.precision self.now.least_exponent code result }
+        ensures stands { StandsIn self.now code result }
         ensures small { InUnits result }
     {
         let hidden = self.hidden();
+        if code < hidden {
+            return Size {
+                significand: code,
+                exponent: self.least_exponent,
+            };
+        }
         Size {
             significand: hidden + code % hidden,
             exponent: self.least_exponent + (code / hidden - 1) as i8,
@@ -131,14 +105,14 @@ fn units(size: Size) -> u64
 }
 
 // The exponent counted from -128.
-fn biased(exponent: i8) -> u16
+fn biased(exponent: i8) -> u32
     ensures { (result ≡ unsigned_abs (exponent +ℤ pos 128)) × (result < 2 ^ 8) }
 {
-    (i16::from(exponent) + 128) as u16
+    u32::from(exponent.abs_diff(i8::MIN))
 }
 
 // significand × 2^from as a whole number of 2^to, where it is one.
-fn shifted(significand: u16, from: u16, to: u16) -> Option<u16>
+fn shifted(significand: u16, from: u32, to: u32) -> Option<u16>
     requires some { 0 < significand }
     requires fits { significand * 2 ^ from < 2 ^ (16 + to) }
     ensures { WholeShift significand from to result }
@@ -146,20 +120,7 @@ fn shifted(significand: u16, from: u16, to: u16) -> Option<u16>
     if to <= from {
         return Some(significand << (from - to));
     }
-    let places = to - from;
-    if places >= 16 {
-        return None;
-    }
-    divided(significand, 1 << places)
-}
-
-// significand / unit, where that is whole.
-fn divided(significand: u16, unit: u16) -> Option<u16>
-    requires { 0 < unit }
-    ensures { Divided significand unit result }
-{
-    if significand % unit != 0 {
-        return None;
-    }
-    Some(significand / unit)
+    let unit = 1u16.checked_shl(to - from)?;
+    let whole = significand.is_multiple_of(unit);
+    whole.then_some(significand / unit)
 }

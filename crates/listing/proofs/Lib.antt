@@ -1,4 +1,4 @@
 mod NumeralLaws
+mod PaddingLaws
 mod RowLaws
 mod TableLaws
-mod TextLaws

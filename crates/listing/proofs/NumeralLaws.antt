@@ -1,15 +1,18 @@
 -- Laws of numerals and of decimal fractions.
-use Rattle.std.proofs.Common.{◌≡◌, ℕ, zero, suc, ◌+◌, ◌-◌, ◌*◌, ◌/◌, ◌%◌, ◌^◌, ◌<◌, ◌≤◌, Bool, false, List, [], ◌∷◌, ◌++◌, length, get_or, codes, sym, refl, ap, ◌∙◌, ⊎_elim, mul_assoc, add-mul, pow-suc, zero-add, arith, lit<, lit≤}
-use native.Mathlib.Nat.{pow-zero, pow-succ', mul-mod_left}
+use Rattle.std.proofs.Common.{◌≡◌, ℕ, zero, suc, ◌+◌, ◌-◌, ◌*◌, ◌/◌, ◌%◌, ◌^◌, ◌<◌, ◌≤◌, ◌≢◌, max, ◌⊎◌, Bool, false, List, [], ◌∷◌, ◌++◌, length, get_or, take, sym, refl, ap, ◌∙◌, inl, inr, ⊎_elim, mul_assoc, pow-suc, zero-mul, arith, lit<, lit≤, pow-add, w32}
+use native.Mathlib.Nat.{pow-zero, mul_comm, lt_of_mul-lt-mul_right, mul-lt-mul_of_pos_right}
+use Rattle.std.proofs.Math.Nat.{zero-div, pow-le-pow_right}
 use Rattle.std.specs.Fmt.{digit_glyph}
-use Rattle.std.specs.Int.Digits.{number_from_digits, number_from_digits_after}
-use Rattle.std.proofs.lemmas.Nat.{pow_pos, one_shl, div_below, mod_below, div-add-mod'}
-use Rattle.std.proofs.lemmas.Int.Digits.{number_push}
+use Rattle.std.specs.Int.{trailing_zeros}
+use Rattle.std.specs.Int.Count.{count_trailing_zeros}
+use Rattle.std.specs.Int.Digits.{number_from_digits}
+use Rattle.std.proofs.lemmas.Nat.{pow_pos, div_below, mod_below, div-add-mod', mul-pow, shl-shr, trailing_le}
+use Rattle.std.proofs.lemmas.Int.Digits.{number_push, number_more}
 use Rattle.std.proofs.ByRecursion.{All-push}
-use Rattle.std.proofs.lemmas.List.{length_push, map_push}
-use Rattle.std.proofs.lemmas.Bool.{cases_eq, eq-eqb, ne_eqb}
+use Rattle.std.proofs.lemmas.List.{length_push, map_push, take_all}
+use Rattle.std.proofs.lemmas.Bool.{cases_eq}
 use Rattle.listing.specs.Numerals.{Numeral, Fraction, Decimal, Grouped}
-use Rattle.listing.specs.Texts.{numeral_text, fraction_text, units_text}
+use Rattle.listing.specs.Texts.{numeral_text, bits_text, places_after, number_after, units_text}
 
 numeral_none : (base n : ℕ) → n < base ^ 0 → Numeral base 0 n []
 numeral_none base n h =
@@ -35,112 +38,114 @@ numeral_text_lem base zero n two h = numeral_none base n h
 numeral_text_lem base (suc count) n two h =
     numeral_more base count n (numeral_text base count (n / base)) two (numeral_text_lem base count (n / base) two (numeral_room base count n two h))
 
-number_first : (b n : ℕ) (ds : List ℕ) → number_from_digits_after b n ds ≡ n * b ^ length ds + number_from_digits b ds
-number_first b n [] = omega (arith, ap (λ x. n * x) (pow-zero b))
-number_first b n (d ∷ ds) =
-    omega (
-      arith,
-      number_first b (n * b + d) ds,
-      number_first b (0 * b + d) ds,
-      add-mul (n * b) d (b ^ length ds),
-      add-mul (0 * b) d (b ^ length ds),
-      mul_assoc n b (b ^ length ds),
-      ap (λ x. n * x) (pow-succ' b (length ds)),
-    )
-
-fraction_last : (f : ℕ) → f < 2 ^ 32 → f * 10 % 2 ^ 32 ≡ 0 → Fraction f (digit_glyph false (f * 10 / 2 ^ 32) ∷ [])
-fraction_last f below e =
-    record { digits = f * 10 / 2 ^ 32 ∷ []; spelled = refl; under = (omega arith, tt); some = omega arith; value = omega arith; short = λ z. refl }
-
-lone_zero : (ds : List ℕ) → length ds ≡ 1 → get_or ds (length ds - 1) 0 ≡ 0 → number_from_digits 10 ds ≡ 0
-lone_zero [] e z = absurd (omega arith)
-lone_zero (d ∷ []) e z = omega arith
-lone_zero (d ∷ (x ∷ ds)) e z = absurd (omega arith)
-
-last_more : (d : ℕ) (ds : List ℕ) → 0 < length ds → get_or (d ∷ ds) (length (d ∷ ds) - 1) 0 ≡ get_or ds (length ds - 1) 0
-last_more d ds h =
-    let e : suc (length ds) - 1 ≡ suc (length ds - 1) = omega arith in
-    ap (λ k. get_or (d ∷ ds) k 0) e
-
-fraction_value : (f d r : ℕ) (ds : List ℕ) → d * 2 ^ 32 + r ≡ f * 10 → number_from_digits 10 ds * 2 ^ 32 ≡ r * 10 ^ length ds → number_from_digits 10 (d ∷ ds) * 2 ^ 32 ≡ f * 10 ^ suc (length ds)
-fraction_value f d r ds parts e =
-    let p = 10 ^ length ds in
-    let whole : d * 2 ^ 32 * p + r * p ≡ f * 10 * p = sym (add-mul (d * 2 ^ 32) r p) ∙ ap (λ x. x * p) parts in
-    let first : number_from_digits 10 (d ∷ ds) ≡ d * p + number_from_digits 10 ds = number_first 10 (0 * 10 + d) ds ∙ ap (λ x. x * p + number_from_digits 10 ds) (zero-add d) in
-    omega (arith, mul_assoc f 10 p, ap (λ x. f * x) (pow-succ' 10 (length ds)), mul_assoc d (2 ^ 32) p)
-
-fraction_more : (f : ℕ) (text : List ℕ) → f < 2 ^ 32 → 0 < f * 10 % 2 ^ 32 → Fraction (f * 10 % 2 ^ 32) text → Fraction f (digit_glyph false (f * 10 / 2 ^ 32) ∷ text)
-fraction_more f text below rest given =
-    let ds = given.digits in
-    let value : number_from_digits 10 ds * 2 ^ 32 ≡ f * 10 % 2 ^ 32 * 10 ^ length ds = given.value in
-    record {
-      digits = f * 10 / 2 ^ 32 ∷ ds;
-      spelled = ap (λ t. digit_glyph false (f * 10 / 2 ^ 32) ∷ t) given.spelled;
-      under = (omega arith, given.under);
-      some = omega arith;
-      value = fraction_value f (f * 10 / 2 ^ 32) (f * 10 % 2 ^ 32) ds (div-add-mod' (f * 10) (2 ^ 32)) value;
-      short = λ z.
-          let last : get_or ds (length ds - 1) 0 ≡ 0 = sym (last_more (f * 10 / 2 ^ 32) ds given.some) ∙ z in
-          let lone : length ds ≡ 1 = given.short last in
-          absurd (omega (arith, value, lone_zero ds lone last, ap (λ k. f * 10 % 2 ^ 32 * 10 ^ k) lone));
-    }
-
-multiple : (n q m : ℕ) → n ≡ q * m → n % m ≡ 0
-multiple n q m e = ap (λ x. x % m) e ∙ mul-mod_left q m
-
-fraction_room : (f places : ℕ) → (f * 2 ^ suc places) % 2 ^ 32 ≡ 0 → 0 < f * 10 % 2 ^ 32 → 0 < places
-fraction_room f places ends rest =
-    let q = f * 2 ^ suc places / 2 ^ 32 in
-    let whole = div-add-mod' (f * 2 ^ suc places) (2 ^ 32) in
+-- n of k bits is an odd number of 2^z, with z zeros at its end, or 0
+trailing : (k n : ℕ) → n < 2 ^ k → (q : ℕ) × (n ≡ q * 2 ^ count_trailing_zeros k n) × (((count_trailing_zeros k n ≡ k) × (n ≡ 0)) ⊎ (q % 2 ≡ 1))
+unfolding count_trailing_zeros
+trailing zero n lt = (n, omega (arith, pow-zero 2), inl (refl, omega (arith, pow-zero 2)))
+trailing (suc k) n lt =
+    let (q, is, end) = trailing k (n / 2) (omega (arith, pow-suc 2 k)) in
+    let z = count_trailing_zeros k (n / 2) in
     ⊎_elim
-    (λ e. let none : f * 10 % 2 ^ 32 ≡ 0 = multiple (f * 10) (5 * q) (2 ^ 32) (omega (arith, ap (λ k. f * 2 ^ suc k) e)) in absurd (omega arith))
-    (λ n. omega arith)
-    (cases_eq places 0)
+    (λ even. rw even (
+      q,
+      omega (arith, pow-suc 2 z, ap (λ x. q * x) (pow-suc 2 z), mul_assoc q (2 ^ z) 2),
+      ⊎_elim (λ none. inl (ap suc none.0, omega (arith, none.1))) (λ odd. inr odd) end,
+    ))
+    (λ (some : n % 2 ≢ 0). let odd : n % 2 ≡ 1 = omega arith in rw odd (n, omega (arith, pow-zero 2), inr odd))
+    (cases_eq (n % 2) 0)
 
-fraction_ends : (f places : ℕ) → (f * 2 ^ suc places) % 2 ^ 32 ≡ 0 → (f * 10 % 2 ^ 32 * 2 ^ places) % 2 ^ 32 ≡ 0
-fraction_ends f places ends =
-    let p = 2 ^ places in
-    let d = f * 10 / 2 ^ 32 in
-    let r = f * 10 % 2 ^ 32 in
-    let q = f * 2 ^ suc places / 2 ^ 32 in
-    let whole : d * 2 ^ 32 * p + r * p ≡ f * 10 * p = sym (add-mul (d * 2 ^ 32) r p) ∙ ap (λ x. x * p) (div-add-mod' (f * 10) (2 ^ 32)) in
-    multiple (r * p) (5 * q - d * p) (2 ^ 32)
-    (omega (arith, div-add-mod' (f * 2 ^ suc places) (2 ^ 32), ap (λ x. f * x) (pow-succ' 2 places), mul_assoc f 10 p, mul_assoc d (2 ^ 32) p))
+-- an odd number times a power of 5 is odd
+odd_more : (q p : ℕ) → q % 2 ≡ 1 → (q * 5 ^ p) % 2 ≡ 1
+odd_more q zero odd = omega (arith, ap (λ x. q * x) (pow-zero 5))
+odd_more q (suc p) odd = omega (arith, odd_more q p odd, ap (λ x. q * x) (pow-suc 5 p), mul_assoc q (5 ^ p) 5)
 
--- so many digits are enough
-fraction_text_lem : (places f : ℕ) → f < 2 ^ 32 → 0 < places → (f * 2 ^ places) % 2 ^ 32 ≡ 0 → Fraction f (fraction_text places f)
-unfolding fraction_text
-fraction_text_lem zero f below some ends = absurd (omega arith)
-fraction_text_lem (suc places) f below some ends =
-    let r = f * 10 % 2 ^ 32 in
-    let less : r < 2 ^ 32 = mod_below (f * 10) (2 ^ 32) (lit< tt) in
+some_five : (p : ℕ) → 0 < 5 ^ p
+some_five zero = omega (arith, pow-zero 5)
+some_five (suc p) = omega (arith, some_five p, pow-suc 5 p)
+
+-- a number that ends in the digit 0 is even
+ends_even : (ds : List ℕ) → 0 < length ds → get_or ds (length ds - 1) 0 ≡ 0 → number_from_digits 10 ds % 2 ≡ 0
+ends_even ds some z =
+    let i = length ds - 1 in
+    let e : i + 1 ≡ length ds = omega arith in
+    let more : number_from_digits 10 ds ≡ number_from_digits 10 (take i ds) * 10 + get_or ds i 0 =
+    ap (number_from_digits 10) (sym (ap (λ k. take k ds) e ∙ take_all (length ds) ds (omega arith))) ∙ number_more 10 ds i (omega arith) in
+    omega arith
+
+-- the number has no more digits than the places
+pub number_below : (f : ℕ) → f < 2 ^ 32 → number_after f < 10 ^ places_after f
+number_below f below =
+    let z = trailing_zeros w32 f in
+    let p = places_after f in
+    let (q, is, end) = trailing 32 f below in
+    let whole : f / 2 ^ z ≡ q = ap (λ x. x / 2 ^ z) is ∙ shl-shr q z in
+    let e : p + z ≡ 32 = omega (arith, trailing_le 32 f) in
+    let short : q < 2 ^ p = lt_of_mul-lt-mul_right (2 ^ z) (omega (arith, pow-add 2 p z, ap (λ x. 2 ^ x) e)) in
+    rw (whole, mul-pow 2 5 p) (mul-lt-mul_of_pos_right short (some_five p))
+
+-- the code's steps have room
+pub five_room : (p : ℕ) → p ≤ 32 → 5 ^ p < 2 ^ 128
+five_room p le = let m : 5 ^ p ≤ 5 ^ 32 = pow-le-pow_right (lit< tt) le in omega arith
+
+pub number_room : (f : ℕ) → f < 2 ^ 32 → number_after f < 2 ^ 128
+number_room f below =
+    let le : places_after f ≤ 32 = omega arith in
+    let m : 10 ^ places_after f ≤ 10 ^ 32 = pow-le-pow_right (lit< tt) le in
+    omega (arith, number_below f below)
+
+swapped : (q a b c : ℕ) → q * c * (b * a) ≡ q * a * (b * c)
+swapped q a b c = mul_assoc q c (b * a) ∙ ap (λ x. q * x) (mul_comm c (b * a) ∙ ap (λ x. x * c) (mul_comm b a) ∙ mul_assoc a b c) ∙ sym (mul_assoc q a (b * c))
+
+value : (f q z p : ℕ) → f ≡ q * 2 ^ z → p + z ≡ 32 → q * 5 ^ p * 2 ^ 32 ≡ f * 10 ^ p
+value f q z p is e =
+    let two : 2 ^ 32 ≡ 2 ^ p * 2 ^ z = ap (λ x. 2 ^ x) (sym e) ∙ pow-add 2 p z in
+    ap (λ x. q * 5 ^ p * x) two ∙ swapped q (2 ^ z) (2 ^ p) (5 ^ p) ∙ ap (λ x. x * (2 ^ p * 5 ^ p)) (sym is) ∙ ap (λ x. f * x) (sym (mul-pow 2 5 p))
+
+-- a fraction from its digits as a number
+of_numeral : (f n count : ℕ) (text : List ℕ) → 0 < count → Numeral 10 count n text → n * 2 ^ 32 ≡ f * 10 ^ count → (n % 2 ≡ 0 → count ≡ 1) → Fraction f text
+of_numeral f n count text some given is lone = record {
+  digits = given.digits;
+  spelled = given.spelled;
+  under = given.under;
+  some = omega (arith, given.long);
+  value = rw (given.value, given.long) is;
+  short = λ z. given.long ∙ lone (sym (ap (λ x. x % 2) given.value) ∙ ends_even given.digits (omega (arith, given.long)) z);
+}
+
+fraction : (f : ℕ) → f < 2 ^ 32 → Fraction f (numeral_text 10 (max (places_after f) 1) (number_after f))
+fraction f below =
+    let z = trailing_zeros w32 f in
+    let p = places_after f in
+    let (q, is, end) = trailing 32 f below in
+    let whole : f / 2 ^ z ≡ q = ap (λ x. x / 2 ^ z) is ∙ shl-shr q z in
+    let e : p + z ≡ 32 = omega (arith, trailing_le 32 f) in
+    let ten : 2 ≤ 10 = lit≤ tt in
     ⊎_elim
-    (λ e. rw (eq-eqb r 0 e) (fraction_last f below e))
-    (λ n.
-    let rest : 0 < r = omega arith in
-    rw (ne_eqb r 0 n) (fraction_more f (fraction_text places r) below rest (fraction_text_lem places r less (fraction_room f places ends rest) (fraction_ends f places ends))))
-    (cases_eq r 0)
+    (λ (none : (z ≡ 32) × (f ≡ 0)).
+    let one : max p 1 ≡ 1 = omega (arith, none.0) in
+    let n : number_after f ≡ 0 = ap (λ x. x / 2 ^ z * 5 ^ p) none.1 ∙ ap (λ x. x * 5 ^ p) (zero-div (2 ^ z)) ∙ zero-mul (5 ^ p) in
+    rw (one, n) (of_numeral f 0 1 _ (lit< tt) (numeral_text_lem 10 1 0 ten (lit< tt)) (omega (arith, none.1)) (λ _. refl)))
+    (λ odd.
+    let some : 0 < p = ⊎_elim (λ none. let all : z ≡ 32 = omega arith in absurd (omega (arith, is, ap (λ k. q * 2 ^ k) all))) (λ n. omega arith) (cases_eq p 0) in
+    let more : max p 1 ≡ p = omega arith in
+    let n : number_after f ≡ q * 5 ^ p = ap (λ x. x * 5 ^ p) whole in
+    rw more
+    (of_numeral f (number_after f) p _ some (numeral_text_lem 10 p (number_after f) ten (number_below f below)) (rw n (value f q z p is e))
+    (λ even. absurd (omega (arith, odd_more q p odd, n)))))
+    end
 
 pub units_decimal : (negative : Bool) (n : ℕ) → Decimal negative n (units_text negative n)
 unfolding units_text
 units_decimal negative n =
     record {
-      after = fraction_text 32 (n % 2 ^ 32);
-      fraction = fraction_text_lem 32 (n % 2 ^ 32) (mod_below n (2 ^ 32) (lit< tt)) (lit< tt) (mul-mod_left (n % 2 ^ 32) (2 ^ 32));
+      after = numeral_text 10 (max (places_after (n % 2 ^ 32)) 1) (number_after (n % 2 ^ 32));
+      fraction = fraction (n % 2 ^ 32) (mod_below n (2 ^ 32) (lit< tt));
       spelled = refl;
     }
 
--- the low bits, as the code has them
-masked : (n k : ℕ) → k < 32 → n % (1 * 2 ^ k % 2 ^ 32) ≡ n % 2 ^ k
-masked n k h = ap (λ m. n % m) (one_shl k 32 h)
-
-pub bits_grouped : (k p c bits : ℕ) → c < 2 ^ k → bits ≡ k - p → bits < 32 → p - 1 < 32
-    → Grouped k p c (numeral_text 2 1 (c * 2 / 2 ^ k) ++ (codes "_" ++ (numeral_text 2 bits (c / 2 ^ (p - 1) % (1 * 2 ^ bits % 2 ^ 32)) ++ (codes "_" ++ numeral_text 2 (p - 1) (c % (1 * 2 ^ (p - 1) % 2 ^ 32))))))
-bits_grouped k p c bits lt is small short =
+pub bits_grouped : (k p c : ℕ) → c < 2 ^ k → Grouped k p c (bits_text k p c)
+bits_grouped k p c lt =
     let two : 2 ≤ 2 = lit≤ tt in
-    let twice : c * 2 ≡ 2 * c = omega arith in
-    let middle = masked (c / 2 ^ (p - 1)) bits small in
-    let last = masked c (p - 1) short in
     record {
       sign = numeral_text 2 1 (2 * c / 2 ^ k);
       exponent = numeral_text 2 (k - p) (c / 2 ^ (p - 1) % 2 ^ (k - p));
@@ -148,5 +153,5 @@ bits_grouped k p c bits lt is small short =
       sign_is = numeral_text_lem 2 1 (2 * c / 2 ^ k) two (div_below (2 * c) (2 ^ k) 2 (pow_pos k) (omega arith));
       exponent_is = numeral_text_lem 2 (k - p) (c / 2 ^ (p - 1) % 2 ^ (k - p)) two (mod_below (c / 2 ^ (p - 1)) (2 ^ (k - p)) (pow_pos (k - p)));
       fraction_is = numeral_text_lem 2 (p - 1) (c % 2 ^ (p - 1)) two (mod_below c (2 ^ (p - 1)) (pow_pos (p - 1)));
-      spelled = rw (twice, middle, last, is);
+      spelled = refl;
     }

@@ -1,7 +1,8 @@
 -- What the row of a code needs of a format's laws.
-use Rattle.std.proofs.Common.{◌≡◌, ℕ, zero, suc, ◌+◌, ◌*◌, ◌/◌, ◌^◌, ◌<◌, ◌≤◌, Bool, true, false, not, List, ◌++◌, ℤ, pos, negsuc, ◌+ℤ◌, ◌*ℤ◌, nat_abs, ◌≤ℤ◌, Ok, codes, sym, refl, ap, ◌∙◌, mul_assoc, arith, lit<, lit≤, pow_mono, pow-add}
+use Rattle.std.proofs.Common.{◌≡◌, ℕ, zero, suc, ◌+◌, ◌*◌, ◌/◌, ◌^◌, ◌<◌, ◌≤◌, Bool, true, false, not, List, ◌++◌, ℤ, pos, negsuc, ◌+ℤ◌, ◌*ℤ◌, nat_abs, ◌≤ℤ◌, Ok, codes, sym, refl, ap, ◌∙◌, ⊎_elim, mul_assoc, arith, lit<, lit≤, pow_mono, pow-add}
 use lib.Signed.{non_neg}
 use Rattle.std.proofs.lemmas.Int.{ints}
+use Rattle.std.proofs.lemmas.Bool.{cases_eq}
 use Rattle.formats.specs.Meaning.{Meaning, Lawful}
 use Rattle.formats.specs.Readings.{fine, Canonical, Decodes}
 use Rattle.formats.specs.Signs.{size_of}
@@ -10,10 +11,9 @@ use Rattle.formats.specs.declared.reading.Dyadic.{Dyadic}
 use Rattle.formats.specs.declared.reading.Reading.{Reading}
 use Rattle.formats.specs.declared.reading.Reading.TheVariants.{Nan, PositiveInfinity, NegativeInfinity, Finite}
 use Rattle.formats.specs.ValueLaws.{abs-*, abs_signed, no_size}
-use Rattle.listing.specs.Numerals.{Grouped}
 use Rattle.listing.specs.Rows.{parts_of, Printable, Valued, Spelled, Line}
-use Rattle.listing.specs.Texts.{numeral_text, places_of, units_of, value_text}
-use Rattle.listing.proofs.NumeralLaws.{numeral_text_lem, units_decimal}
+use Rattle.listing.specs.Texts.{numeral_text, bits_text, places_of, units_of, value_text}
+use Rattle.listing.proofs.NumeralLaws.{numeral_text_lem, bits_grouped, units_decimal}
 
 sixteen : (j : ℕ) → 16 ^ j ≡ 2 ^ (4 * j)
 sixteen zero = refl
@@ -23,11 +23,24 @@ sixteen (suc j) =
     rw (e, f, pow-add 2 (4 * j) 4, pow-add 16 j 1, sixteen j)
 
 -- a number of k bits has as many hexadecimal digits as cover them
-hex_covers : (c k : ℕ) → c < 2 ^ k → c < 16 ^ ((k + 3) / 4)
+pub hex_covers : (c k : ℕ) → c < 2 ^ k → c < 16 ^ ((k + 3) / 4)
 hex_covers c k lt =
     let le : k ≤ 4 * ((k + 3) / 4) = omega arith in
     let p : 2 ^ k ≤ 2 ^ (4 * ((k + 3) / 4)) = pow_mono le in
     omega (arith, sixteen ((k + 3) / 4))
+
+-- NaN and infinity are told apart by some bit
+pub some_width : (m : Meaning) → Lawful m → 0 < m.width
+some_width m laws =
+    ⊎_elim
+    (λ z.
+    let one : 2 ^ m.width ≡ 1 = ap (λ k. 2 ^ k) z in
+    let a : m.encode nan ≡ 0 = omega (arith, laws.nan_read.0) in
+    let b : m.encode (infinite false) ≡ 0 = omega (arith, (laws.infinite_read false).0) in
+    let same : nan ≡ infinite false = sym laws.nan_read.1 ∙ ap m.decode (a ∙ sym b) ∙ (laws.infinite_read false).1 in
+    let x : ◌≡◌ {A = ℕ} 0 1 = cc in absurd (omega arith))
+    (λ n. omega arith)
+    (cases_eq m.width 0)
 
 -- the size in units of 2^-32, where the exponent allows it
 units : (d : Dyadic) (k : ℕ) → negsuc 31 ≤ℤ d.exponent → k ≡ nat_abs (d.exponent +ℤ pos 32) → (d.significand * 2 ^ k) * 2 ^ 96 ≡ size_of d
@@ -101,18 +114,18 @@ pub fits : (m : Meaning) → Lawful m → (c : ℕ) (r : Reading) → Decodes m 
 fits m laws c r (lt, e, canonical) = roomy r (printable m laws c r lt e canonical)
 
 -- the line from its parts
-pub line : (m : Meaning) → Lawful m → (c w p : ℕ) (r : Reading) (bits text : List ℕ) → w ≡ m.width → p ≡ m.precision → Decodes m c (Ok r) → Grouped w p c bits
-    → text ≡ codes "0x" ++ (numeral_text 16 ((w + 3) / 4) c ++ (codes " " ++ (bits ++ (codes " " ++ (parts_of r ++ (codes " " ++ value_text r))))))
+pub line : (m : Meaning) → Lawful m → (c w p : ℕ) (r : Reading) (text : List ℕ) → w ≡ m.width → p ≡ m.precision → Decodes m c (Ok r)
+    → text ≡ codes "0x" ++ (numeral_text 16 ((w + 3) / 4) c ++ (codes " " ++ (bits_text w p c ++ (codes " " ++ (parts_of r ++ (codes " " ++ value_text r))))))
     → Line m c text
-line m laws c w p r bits text wide precise (lt, read_is, canonical) grouped whole = record {
+line m laws c w p r text wide precise (lt, read_is, canonical) whole = record {
   hex = numeral_text 16 ((m.width + 3) / 4) c;
-  bits = bits;
+  bits = bits_text m.width m.precision c;
   reading = r;
   value = value_text r;
   hex_is = numeral_text_lem 16 ((m.width + 3) / 4) c (lit≤ tt) (hex_covers c m.width lt);
-  bits_are = rw (wide, precise) at grouped;
+  bits_are = bits_grouped m.width m.precision c lt;
   reading_is = read_is;
   canonical = canonical;
   value_is = spelled m (m.decode c) r (value_text r) read_is canonical (valued r (printable m laws c r lt read_is canonical));
-  spelled = rw wide at whole;
+  spelled = rw (wide, precise) at whole;
 }

@@ -1,15 +1,12 @@
 -- What a list of lines needs to have a line for each code.
-use Rattle.std.proofs.Common.{◌≡◌, ℕ, ◌+◌, ◌^◌, ◌≤◌, List, [], ◌∷◌, ◌++◌, length, sym, ap, ◌∙◌, subst, ⊎_elim, arith}
+use Rattle.std.proofs.Common.{◌≡◌, ℕ, ◌+◌, List, [], ◌∷◌, ◌++◌, sym, ◌∙◌, subst, ⊎_elim, arith}
 use Rattle.std.proofs.lemmas.List.{length_push, get_or_push, get_or_append_left}
 use Rattle.std.proofs.lemmas.Bool.{cases_lt}
 use Rattle.formats.specs.Meaning.{Meaning}
 use Rattle.listing.specs.Rows.{Line}
-use Rattle.listing.specs.Tables.{Listed, Complete}
+use Rattle.listing.specs.Tables.{Listed}
 
 module _ {S : Type 0} (bytes : S → List ℕ) (m : Meaning) where
-  pub listed_none : (lines : List S) → lines ≡ [] → Listed bytes m lines 0
-  listed_none lines e = (ap length e, λ k none lt. absurd (omega arith))
-
   -- one more line at the end
   listed_push : (lines : List S) (x : S) (c : ℕ) → Listed bytes m lines c → Line m c (bytes x) → Listed bytes m (lines ++ (x ∷ [])) (c + 1)
   listed_push lines x c (long, each) line = (
@@ -25,6 +22,3 @@ module _ {S : Type 0} (bytes : S → List ℕ) (m : Meaning) where
 
   pub listed_more : (lines more : List S) (x : S) (c : ℕ) → Listed bytes m lines c → more ≡ lines ++ (x ∷ []) → Line m c (bytes x) → Listed bytes m more (c + 1)
   listed_more lines more x c listed e line = subst (λ ls. Listed bytes m ls (c + 1)) (sym e) (listed_push lines x c listed line)
-
-  pub complete : (lines : List S) (c count : ℕ) → Listed bytes m lines c → c ≤ count → count ≤ c → count ≡ 2 ^ m.width → Complete bytes m lines
-  complete lines c count (long, each) most least is = record { all = omega arith; each = λ k none lt. each k none (omega arith) }

@@ -6,7 +6,7 @@ ghost use Rattle.listing.specs.declared.rows.Unlisted.TheVariants.{Refused, NoMe
 ghost use Rattle.listing.specs.Rows.{parts_of, Line, Lacks};
 ghost use Rattle.listing.specs.Texts.{places_of, units_of, value_text};
 
-use crate::numerals::{Digits, Units, grouped};
+use crate::numerals::{Bits, Units};
 use formats::fault::Fault;
 use formats::format::Format;
 use formats::reading::{Dyadic, Reading};
@@ -14,7 +14,7 @@ use std::alloc::{AllocError, AllocFailed, Global};
 use std::fmt;
 
 // Why a row is not there.
-#[derive(Drop)]
+#[derive(Debug, Drop)]
 pub enum Unlisted {
     Refused(Fault),
     NoMemory,
@@ -49,10 +49,7 @@ pub fn row<F: Format>(heap: Global, format: &F, code: u16) -> Result<String, Unl
     ensures { MatchResult result (λ s. Line (F.Format.meaning format.now) code (string_bytes s)) (Lacks (F.Format.meaning format.now) code) }
 {
     let reading = format.decode(code)?;
-    let Ok(line) = line(heap, format, code, reading) else {
-        return Err(Unlisted::NoMemory);
-    };
-    Ok(line)
+    Ok(line(heap, format, code, reading)?)
 }
 
 // The line of a code with its reading.
@@ -66,14 +63,14 @@ fn line<F: Format>(
     ensures { IfOk result (λ s. Line (F.Format.meaning format.now) code (string_bytes s)) }
 {
     let shape = format.shape();
-    let hex = Digits {
-        number: code as u32,
-        base: 16,
-        count: (shape.width + 3) / 4,
+    let digits = usize::from(shape.width).div_ceil(4);
+    let bits = Bits {
+        code,
+        width: shape.width,
+        precision: shape.precision,
     };
-    let bits = grouped(code, shape.width, shape.precision);
     let read = Read { reading };
-    format!(in heap; "0x{hex} {bits} {read}")
+    format!(in heap; "0x{code:0digits$x} {bits} {read}")
 }
 
 // The significand and the exponent, or a dash for each, and the exact value.
@@ -104,9 +101,8 @@ fn in_units(value: Dyadic) -> Units
     requires { (places_of (Finite value) < 64) × (units_of (Finite value) < 2 ^ 64) }
     ensures { (result.negative ≡ value.negative) × (result.units ≡ units_of (Finite value)) }
 {
-    let places = (value.exponent as i16 + 32).unsigned_abs();
     Units {
         negative: value.negative,
-        units: (value.significand as u64) << places,
+        units: u64::from(value.significand) << value.exponent.abs_diff(-32),
     }
 }

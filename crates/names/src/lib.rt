@@ -1,4 +1,5 @@
-// The names of the formats.
+// The names of the formats. `FromStr` and `Display` for `AnyFormat` would have to stand in `formats`,
+// which knows no text.
 #![tactic(auto)]
 
 ghost use Rattle.std.specs.Prelude.{◌≡◌, ℕ, ◌<◌, IfOk, string_bytes};
@@ -48,6 +49,7 @@ pub fn name(heap: Global, format: &AnyFormat) -> Result<String, AllocError>
 }
 
 // `binary` with a width and a precision of one digit each.
+#[tactic(auto, using(std::proofs::lemmas::Fmt::decimal_digit))]
 fn with_sizes(heap: Global, width: u8, precision: u8) -> Result<String, AllocError>
     requires { (width < 10) × (precision < 10) }
     ensures { IfOk result (λ s. string_bytes s ≡ with_sizes width precision) }

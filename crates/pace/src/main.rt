@@ -3,53 +3,49 @@
 
 ghost use Rattle.std.specs.Prelude.{◌^◌, ◌<◌, ◌≤◌};
 ghost use Rattle.std.specs.List.{AllByRecursion};
-ghost use Rattle.sums.specs.Sums.{Sound};
 ghost use Rattle.pace.specs.Pace.{Within};
 
 use anyhow::anyhow;
+use formats::fault::Fault;
 use formats::p3109::P3109;
 use registers::register::Register;
-use rounding::answers::Saturation;
+use rounding::answers::{Mark, Saturation};
 use rounding::rules::NearestTiesToEven;
-use std::env;
+use std::{array, env};
 use sums::sum::Sum;
+use terms::scaled::Scaled;
 
 const TERMS: u32 = 100_000;
-
-#[derive(Clone, Copy)]
-struct Term {
-    negative: bool,
-    digits: u32,
-    place: u8,
-}
 
 fn main(rt: HostRuntime) -> anyhow::Result<()> {
     run(&rt)
 }
 
-// What the arguments name, or both where they name none.
+// What the arguments name, or all where they name none.
 fn run(rt: &HostRuntime) -> anyhow::Result<()> {
     let mut words = 0u8;
     for word in env::args(rt)?.skip(1) {
         words = words.saturating_add(1);
-        match word.as_str() {
-            "one" => tell(rt, "one sum", &added(TERMS))?,
-            "eight" => tell(rt, "eight sums", &joined(&spread(TERMS)))?,
-            "dot" => tell_dot(rt, words)?,
-            _ => return Err(anyhow!("the arguments are: one, eight, dot")),
-        }
+        tell(rt, word.as_str(), words)?;
     }
     if words == 0 {
-        tell(rt, "one sum", &added(TERMS))?;
-        tell(rt, "eight sums", &joined(&spread(TERMS)))?;
-        tell_dot(rt, words)?;
+        for word in ["one", "eight", "dot"] {
+            tell(rt, word, words)?;
+        }
     }
     Ok(())
 }
 
-fn tell(rt: &HostRuntime, title: &str, sum: &Sum) -> anyhow::Result<()>
-    requires { Sound sum.now }
-{
+fn tell(rt: &HostRuntime, word: &str, words: u8) -> anyhow::Result<()> {
+    match word {
+        "one" => tell_sum(rt, "one sum", &added(TERMS)),
+        "eight" => tell_sum(rt, "eight sums", &joined(&spread(TERMS))),
+        "dot" => tell_dot(rt, words),
+        _ => Err(anyhow!("the arguments are: one, eight, dot")),
+    }
+}
+
+fn tell_sum(rt: &HostRuntime, title: &str, sum: &Sum) -> anyhow::Result<()> {
     let below = sum.is_negative();
     let digits = sum.magnitude().bit_length();
     println!(rt; "{title}: {TERMS} terms, negative: {below}, binary digits: {digits}")?;
@@ -59,37 +55,35 @@ fn tell(rt: &HostRuntime, title: &str, sum: &Sum) -> anyhow::Result<()>
 // What a register reads after a dot of 10,000 products, in the second format under rule 0 and mode 2.
 // The precisions depend on the number of words, so that the compiler does not know them.
 fn tell_dot(rt: &HostRuntime, words: u8) -> anyhow::Result<()> {
-    let Ok(x_format) = P3109::new(8, words % 4 + 3) else {
-        return Err(anyhow!("no such format"));
-    };
-    let Ok(y_format) = P3109::new(8, words % 4 + 2) else {
-        return Err(anyhow!("no such format"));
-    };
-    let mut register = Register::new();
-    let Ok(()) = register.dot(&x_format, &y_format, -16, &codes()) else {
+    let Ok(((code, _), count)) = dotted(words) else {
         return Err(anyhow!("the products were refused"));
     };
-    let ((code, _), count) = register.read(&y_format, &NearestTiesToEven, Saturation::OvfInf);
     println!(rt; "dot: {count} products, code: {code}")?;
     Ok(())
 }
 
+fn dotted(words: u8) -> Result<((u16, Mark), u32), Fault> {
+    let x_format = P3109::new(8, words % 4 + 3)?;
+    let y_format = P3109::new(8, words % 4 + 2)?;
+    let mut register = Register::new();
+    register.dot(&x_format, &y_format, -16, &codes())?;
+    Ok(register.read(&y_format, &NearestTiesToEven, Saturation::OvfInf))
+}
+
 // Scattered codes of finite values, of both signs.
 fn codes() -> [u8; 20_000] {
-    let mut codes = [0u8; 20_000];
-    for i in 0..20_000u32 {
-        let size = 1 + (i.wrapping_mul(0x9e37_79b1) >> 16) % 126;
-        codes[i as usize] = (size + 128 * (i / 3 % 2)) as u8;
-    }
-    codes
+    array::from_fn(|i| {
+        let size = 1 + (i.wrapping_mul(0x9e37_79b1) % (1 << 32) >> 16) % 126;
+        (size + 128 * (i / 3 % 2)) as u8
+    })
 }
 
 // The term of an index: scattered digits and places, and both signs in turn.
-fn drawn(i: u32) -> Term
-    ensures { (result.digits < 2 ^ 24) × (result.place < 128) }
+fn drawn(i: u32) -> Scaled
+    ensures { result.place < 128 }
 {
     let mixed = i.wrapping_mul(0x9e37_79b1);
-    Term {
+    Scaled {
         negative: i % 2 == 1,
         digits: mixed >> 8,
         place: (mixed % 128) as u8,
@@ -125,11 +119,10 @@ fn spread(count: u32) -> [Sum; 8]
 // Eight sums as one.
 fn joined(sums: &[Sum; 8]) -> Sum
     requires { AllByRecursion (Within 100000) sums.now }
-    ensures { Sound result }
 {
     let mut all = Sum::zero();
-    for i in 0..8 {
-        all.add_sum(&sums[i]);
+    for sum in sums {
+        all.add_sum(sum);
     }
     all
 }

@@ -1,18 +1,22 @@
 -- What the functions that read records answer.
-use Rattle.std.specs.Prelude.{◌≡◌, ℕ, ◌<◌, ◌≤◌, true, false, ◌⊎◌, List, length, Some, None, Ok, Err, Option, Result}
+use Rattle.std.specs.Prelude.{◌≡◌, ℕ, ◌<◌, ◌≤◌, true, false, ◌⊎◌, List, length, Ok, Err, Result}
+use Rattle.std.proofs.Common.{rules}
 use Rattle.formats.specs.AnyFormat.{meaning_of, byte_meaning}
 use Rattle.formats.specs.Meaning.{Meaning}
 use Rattle.formats.specs.declared.any.AnyFormat.{AnyFormat}
 use Rattle.registers.specs.Runs.{wide, code_bytes, code_at}
-use Rattle.rounding.specs.Rules.{table_of}
+use Rattle.rounding.specs.Rules.{table_of, ByRuleByte, ByModeByte}
 use Rattle.rounding.specs.declared.answers.Saturation.{Saturation}
+use Rattle.rounding.specs.declared.answers.Saturation.TheVariants.{SatFinite, SatPropagate, OvfInf}
 use Rattle.rounding.specs.declared.rules.AnyRule.{AnyRule}
+use Rattle.rounding.specs.declared.rules.AnyRule.TheVariants.{TiesToEven, TiesToAway, Upward, Downward, Chop}
 use Rattle.records.specs.Bodies.{is_format, rule_of, mode_of, clear_fields, add_fields, dot_fields, join_fields, read_fields}
 use Rattle.records.specs.Entries.{Parsed, refused}
 use Rattle.records.specs.Refusals.{refusal, in_arithmetic, in_record, refusal_of}
 use Rattle.records.specs.declared.fault.RecordFault.{RecordFault}
 use Rattle.records.specs.declared.kind.Kind.{Kind}
 use Rattle.records.specs.declared.kind.Kind.TheVariants as kinds
+use Rattle.records.specs.declared.kind.NoSuchKind.{NoSuchKind}
 use Rattle.records.specs.declared.record.Record.{Record}
 use Rattle.records.specs.declared.record.Record.TheVariants.{Clear, Add, Dot, Join, Read}
 
@@ -36,10 +40,10 @@ kind_number kinds.Dot = 3
 kind_number kinds.Join = 4
 kind_number kinds.Read = 5
 
--- the kind of a number, or none where it is not 1 to 5
-abbrev pub ByNumber : ℕ → Option Kind → Type 0
-ByNumber n (Some k) = kind_number k ≡ n
-ByNumber n None = (n ≡ 0) ⊎ (5 < n)
+-- the kind of a number, or an error where it is not 1 to 5
+abbrev pub ByNumber : ℕ → Result Kind NoSuchKind → Type 0
+ByNumber n (Ok k) = kind_number k ≡ n
+ByNumber n (Err e) = (n ≡ 0) ⊎ (5 < n)
 
 abbrev pub RegisterAt : ℕ → ℕ → Result ℕ RecordFault → Type 0
 RegisterAt offset b (Ok r) = (r ≡ b) × (b < 4)
@@ -49,13 +53,34 @@ abbrev pub FormatAt : ℕ → ℕ → Result AnyFormat RecordFault → Type 0
 FormatAt offset b (Ok f) = (is_format b ≡ true) × (meaning_of f ≡ byte_meaning b)
 FormatAt offset b (Err f) = (is_format b ≡ false) × (refusal_of f ≡ refusal 1 in_arithmetic offset)
 
+-- what a byte gives, or refusal 10 at a byte that gives nothing
+abbrev pub NumberedAt : {T E : Type 0} → (ℕ → Result T E → Type 0) → ℕ → ℕ → Result T RecordFault → Type 0
+NumberedAt gives offset b (Ok x) = gives b (Ok x)
+NumberedAt {E = E} gives offset b (Err f) = ((e : E) × gives b (Err e)) × (refusal_of f ≡ refusal 10 in_record offset)
+
 abbrev pub RuleAt : ℕ → ℕ → Result AnyRule RecordFault → Type 0
 RuleAt offset b (Ok r) = (b < 5) × (table_of r ≡ rule_of b)
 RuleAt offset b (Err f) = (5 ≤ b) × (refusal_of f ≡ refusal 10 in_record offset)
 
+-- so by the byte of a rule
+pub rule_at : (offset b : ℕ) (r : Result AnyRule RecordFault) → NumberedAt ByRuleByte offset b r → RuleAt offset b r
+rule_at offset b (Ok TiesToEven) is = rw (← is) (search rules)
+rule_at offset b (Ok TiesToAway) is = rw (← is) (search rules)
+rule_at offset b (Ok Upward) is = rw (← is) (search rules)
+rule_at offset b (Ok Downward) is = rw (← is) (search rules)
+rule_at offset b (Ok Chop) is = rw (← is) (search rules)
+rule_at offset b (Err f) ((e, most), refuses) = (most, refuses)
+
 abbrev pub ModeAt : ℕ → ℕ → Result Saturation RecordFault → Type 0
 ModeAt offset b (Ok m) = (b < 3) × (m ≡ mode_of b)
 ModeAt offset b (Err f) = (3 ≤ b) × (refusal_of f ≡ refusal 10 in_record offset)
+
+-- and by the byte of a mode
+pub mode_at : (offset b : ℕ) (r : Result Saturation RecordFault) → NumberedAt ByModeByte offset b r → ModeAt offset b r
+mode_at offset b (Ok SatFinite) is = rw (← is) (search rules)
+mode_at offset b (Ok SatPropagate) is = rw (← is) (search rules)
+mode_at offset b (Ok OvfInf) is = rw (← is) (search rules)
+mode_at offset b (Err f) ((e, most), refuses) = (most, refuses)
 
 -- the code that the bytes are, where they are as many as a code of the format takes
 abbrev pub OneCode : ℕ → Meaning → List ℕ → Result ℕ RecordFault → Type 0

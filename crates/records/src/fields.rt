@@ -1,14 +1,12 @@
 // The fields of a record, each at its offset from the record's first byte.
 ghost use Rattle.std.specs.Prelude.{◌≡◌};
 ghost use Rattle.formats.specs.AnyFormat.{meaning_of};
-ghost use Rattle.records.specs.Fields.{RegisterAt, FormatAt, RuleAt, ModeAt, OneCode};
+ghost use Rattle.records.specs.Fields.{RegisterAt, FormatAt, NumberedAt, OneCode};
 
 use crate::fault::RecordFault;
 use formats::any::AnyFormat;
 use formats::fault::Fault;
 use formats::format::Format;
-use rounding::answers::Saturation;
-use rounding::rules::AnyRule;
 
 // One of the registers 0 to 3; refused (10) at any other number.
 pub fn register_at(offset: usize, byte: u8) -> Result<usize, RecordFault>
@@ -25,24 +23,16 @@ pub fn register_at(offset: usize, byte: u8) -> Result<usize, RecordFault>
 pub fn format_at(offset: usize, byte: u8) -> Result<AnyFormat, RecordFault>
     ensures { FormatAt offset byte result }
 {
-    match AnyFormat::from_byte(byte) {
-        Ok(format) => Ok(format),
-        Err(fault) => Err(RecordFault::Arithmetic(offset, fault)),
-    }
+    AnyFormat::try_from(byte).map_err(|fault| RecordFault::Arithmetic(offset, fault))
 }
 
-// The rule of a rule byte; refused (10) where there is none.
-pub fn rule_at(offset: usize, byte: u8) -> Result<AnyRule, RecordFault>
-    ensures { RuleAt offset byte result }
+// The rule or the mode of its byte; refused (10) where there is none.
+pub fn numbered_at<T: TryFrom<u8>>(offset: usize, byte: u8) -> Result<T, RecordFault>
+where
+    T::Error: Drop,
+    ensures { NumberedAt T.try_from_gives offset byte result }
 {
-    AnyRule::from_byte(byte).ok_or(RecordFault::NoSuchNumber(offset))
-}
-
-// The mode of a mode byte; refused (10) where there is none.
-pub fn mode_at(offset: usize, byte: u8) -> Result<Saturation, RecordFault>
-    ensures { ModeAt offset byte result }
-{
-    Saturation::from_byte(byte).ok_or(RecordFault::NoSuchNumber(offset))
+    T::try_from(byte).map_err(|_| RecordFault::NoSuchNumber(offset))
 }
 
 // The one code that the bytes are; refused (6) where they are not one code of the format.
@@ -51,7 +41,7 @@ pub fn one_code(offset: usize, format: &AnyFormat, bytes: &[u8]) -> Result<u16, 
 {
     match (format.shape().width > 8, bytes) {
         (false, [code]) => Ok(u16::from(*code)),
-        (true, [low, high]) => Ok(u16::from(*low) + 256 * u16::from(*high)),
+        (true, [low, high]) => Ok(u16::from_le_bytes([*low, *high])),
         _ => Err(RecordFault::Arithmetic(offset, Fault::NotWholeCodes)),
     }
 }

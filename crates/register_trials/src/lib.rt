@@ -1,9 +1,6 @@
 // Tests of registers on examples.
 #![tactic(auto)]
 
-ghost use Rattle.std.specs.Prelude.{Ok, Err};
-ghost use Rattle.registers.specs.Calls.{Bounded};
-
 #[cfg(test)]
 mod tests {
     use formats::binary16::Binary16;
@@ -15,18 +12,12 @@ mod tests {
     use std::process::Abort;
     use std::test::Fail;
 
-    fn format(width: u8, precision: u8) -> Result<P3109, Fail> {
-        match P3109::new(width, precision) {
-            Ok(format) => Ok(format),
-            Err(_) => Err(Fail::new("no such format")),
-        }
+    fn refused(_fault: Fault) -> Fail {
+        Fail::new("refused")
     }
 
-    fn done(answer: Result<(), Fault>) -> Result<(), Fail> {
-        match answer {
-            Ok(()) => Ok(()),
-            Err(_) => Err(Fail::new("refused")),
-        }
+    fn format(width: u8, precision: u8) -> Result<P3109, Fail> {
+        P3109::new(width, precision).map_err(refused)
     }
 
     // What the register reads in binary8p4 under rule 0 and mode 2.
@@ -36,9 +27,7 @@ mod tests {
         code: u16,
         mark: Mark,
         count: u32,
-    ) -> Result<(), Fail>
-        requires { Bounded register.now }
-    {
+    ) -> Result<(), Fail> {
         let answer = register.read(&format(8, 4)?, &NearestTiesToEven, Saturation::OvfInf);
         let ((read, side), terms) = answer;
         assert!(rt; read == code && side == mark && terms == count);
@@ -48,9 +37,9 @@ mod tests {
     #[test]
     fn nothing_is_lost(rt: HostRuntime) -> Result<(), Fail> {
         let mut register = Register::new();
-        done(register.add(&format(8, 2)?, 0x7E))?;
-        done(register.add(&format(8, 4)?, 0x01))?;
-        done(register.add(&format(8, 2)?, 0xFE))?;
+        register.add(&format(8, 2)?, 0x7E).map_err(refused)?;
+        register.add(&format(8, 4)?, 0x01).map_err(refused)?;
+        register.add(&format(8, 2)?, 0xFE).map_err(refused)?;
         reads(&rt, &register, 0x01, Mark::Exact, 3)
     }
 
@@ -58,23 +47,23 @@ mod tests {
     fn zero_times_infinity(rt: HostRuntime) -> Result<(), Fail> {
         let binary8p4 = format(8, 4)?;
         let mut register = Register::new();
-        done(register.product(&binary8p4, &binary8p4, 0, 0x00, 0x7F))?;
+        register
+            .product(&binary8p4, &binary8p4, 0, 0x00, 0x7F)
+            .map_err(refused)?;
         reads(&rt, &register, 0x80, Mark::Unordered, 1)
     }
 
     // A register with 2^doublings terms of a value, less one where `short` says so.
-    fn grown(doublings: u32, short: bool) -> Result<Register, Fail>
-        ensures { elim result [ Ok register ↦ Bounded register | Err f ↦ Unit {0} ] }
-    {
+    fn grown(doublings: u32, short: bool) -> Result<Register, Fail> {
         let binary8p4 = format(8, 4)?;
         let mut register = Register::new();
         if !short {
-            done(register.add(&binary8p4, 0x40))?;
+            register.add(&binary8p4, 0x40).map_err(refused)?;
         }
         for _ in 0..doublings {
-            done(register.join_itself())?;
+            register.join_itself().map_err(refused)?;
             if short {
-                done(register.add(&binary8p4, 0x40))?;
+                register.add(&binary8p4, 0x40).map_err(refused)?;
             }
         }
         Ok(register)
@@ -86,7 +75,7 @@ mod tests {
         let before = register;
         assert!(rt; register.join_itself() == Err(Fault::RegisterFull));
         assert!(rt; register.equals(&before));
-        done(register.join(&grown(31, true)?))?;
+        register.join(&grown(31, true)?).map_err(refused)?;
         let ((_, _), count) = register.read(&format(8, 4)?, &NearestTiesToEven, Saturation::OvfInf);
         assert!(rt; count == u32::MAX);
         Ok(())
@@ -110,13 +99,13 @@ mod tests {
         let x_format = format(8, 4)?;
         let y_format = format(6, 3)?;
         let mut register = Register::new();
-        done(register.add(&x_format, 0x40))?;
+        register.add(&x_format, 0x40).map_err(refused)?;
         let before = register;
         for (scale, run, fault) in REFUSED.iter().copied() {
             assert!(rt; register.dot(&x_format, &y_format, scale, run) == Err(fault));
             assert!(rt; register.equals(&before));
         }
-        done(register.dot(&x_format, &y_format, 0, &[]))?;
+        register.dot(&x_format, &y_format, 0, &[]).map_err(refused)?;
         assert!(rt; register.equals(&before));
         Ok(())
     }
@@ -126,17 +115,22 @@ mod tests {
     fn a_dot_brings_its_products(rt: HostRuntime) -> Result<(), Fail> {
         let x_format = format(8, 4)?;
         let mut whole = Register::new();
-        done(whole.dot(
-            &x_format,
-            &Binary16,
-            -7,
-            &[0x41, 0x01, 0x3C, 0xFE, 0xFF, 0x7B],
-        ))?;
+        whole
+            .dot(
+                &x_format,
+                &Binary16,
+                -7,
+                &[0x41, 0x01, 0x3C, 0xFE, 0xFF, 0x7B],
+            )
+            .map_err(refused)?;
         let mut each = Register::new();
-        done(each.product(&x_format, &Binary16, -7, 0x41, 0x3C01))?;
-        done(each.product(&x_format, &Binary16, -7, 0xFE, 0x7BFF))?;
+        each.product(&x_format, &Binary16, -7, 0x41, 0x3C01)
+            .map_err(refused)?;
+        each.product(&x_format, &Binary16, -7, 0xFE, 0x7BFF)
+            .map_err(refused)?;
         assert!(rt; whole.equals(&each));
-        done(each.product(&x_format, &Binary16, -7, 0x00, 0x0000))?;
+        each.product(&x_format, &Binary16, -7, 0x00, 0x0000)
+            .map_err(refused)?;
         assert!(rt; !whole.equals(&each));
         Ok(())
     }

@@ -18,7 +18,7 @@ length_both [] us = omega arith
 length_both (t ∷ ts) us = let h = length_both ts us in omega arith
 
 pub has_new : (r : Register) → New r → Has r []
-has_new r n = record { bounded = n.bounded; counted = n.none; summed = n.zero ∙ sym exact_sum_none }
+has_new r n = record { counted = n.none; summed = n.zero ∙ sym exact_sum_none }
 
 -- terms that went in, or were refused, where the book is offered as many of the same exact sum
 pub brings_has : (n : ℕ) (v : Value) (old new : Register) (a : Result Unit Fault) (ts us : List Value) → n ≡ length us → v ≡ exact_sum us → Has old ts → Brings n v old a new → Has new (entered ts (terms us))
@@ -30,7 +30,6 @@ brings_has n v old new (Ok done) ts us long sum has b =
     let fits : length ts + length us ≤ limit = omega arith in
     rw (le-leb (length ts + length us) limit fits)
     (record {
-      bounded = b.bounded;
       counted = omega arith;
       summed = b.summed ∙ ap (λ x. plus x v) has.summed ∙ ap (plus (exact_sum ts)) sum ∙ sym (exact_sum-++ ts us);
     })

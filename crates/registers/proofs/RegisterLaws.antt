@@ -1,69 +1,54 @@
 -- The laws of the registers that histories lead to.
-use Rattle.std.proofs.Common.{◌≡◌, ℕ, true, false, not, List, [], nat_abs, sym, refl, ap, ◌∙◌, subst, ap₂}
+use Rattle.std.proofs.Common.{◌≡◌, ℕ, ◌*◌, ◌^◌, ◌≤◌, Decides, true, false, not, List, [], nat_abs, sym, refl, ap, ◌∙◌, subst}
 use lib.Signed.{non_neg}
 use Rattle.formats.specs.Meaning.{Meaning, Lawful}
-use Rattle.formats.specs.Value.{Value, nan, infinite, finite, less}
-use Rattle.formats.specs.ValueLaws.{same_finite}
+use Rattle.formats.specs.Value.{Value, finite, less}
 use Rattle.rounding.specs.Laws.{AnswersNearest, NearestFor, read_back}
 use Rattle.rounding.specs.Projection.{projected, is_odd, significand_of}
 use Rattle.rounding.specs.Rule.{Rule, Monotone, Nearest}
 use Rattle.rounding.specs.declared.answers.Saturation.{Saturation}
 use Rattle.rounding.proofs.RoundLaws.{keeps_order, keeps_nearest}
-use Rattle.sums.specs.Sums.{value, value_of, Cleared, Sound}
-use Rattle.sums.specs.Words.{Eight}
-use Rattle.sums.specs.declared.sum.Standing.{Standing}
-use Rattle.sums.specs.declared.sum.Standing.TheVariants.{NotANumber, PositiveInfinity, NegativeInfinity, Finite}
+use Rattle.sums.specs.Sums.{value, size}
 use Rattle.sums.specs.declared.sum.Sum.{Sum}
-use Rattle.sums.proofs.SignedLaws.{words_signed}
+use Rattle.sums.proofs.SumLaws.{value_once, decided as sums_decided}
+use Rattle.std.proofs.Props.{props}
+use Rattle.std.proofs.lemmas.Bool.Decides.{Decides-and, Decides-eqb}
 use Rattle.terms.specs.Terms.{exact_sum}
 use Rattle.registers.specs.Calls.{New, Has, read_of}
 use Rattle.registers.specs.Histories.{Known}
 use Rattle.registers.specs.Laws.{SameTerms, EqualExactlyWhen, ReadsItsTerms, KeepsOrder, NearestCode, ReadsNearest, RegisterLaws}
 use Rattle.registers.specs.declared.register.Register.{Register}
+use Rattle.registers.specs.contracts.register.RegisterPartialEq.TheImpl as RegisterPartialEq
 use Rattle.registers.proofs.HistoryLaws.{known_has}
-
-abbrev sum : Standing → List ℕ → Sum
-sum a ws = record { standing = a; words = ws }
-
-abbrev register : ℕ → Sum → Register
-register n s = record { count = n; sum = s }
 
 known_new : (r : Register) → New r → Known r []
 known_new r new = record { history = []; store = λ i. r; name = 0; leads = λ i. new; is = refl; kept = refl }
 
--- the value tells the standing, and with it the words
-tag : Value → Standing
-tag nan = NotANumber
-tag (infinite true) = NegativeInfinity
-tag (infinite false) = PositiveInfinity
-tag (finite z) = Finite
+held : (n : ℕ) (s : Sum) → size s ≤ n * 2 ^ 191 → Register
+held n s h = record { count = n; sum = s; bounded = h }
 
-tag_of : (a : Standing) (ws : List ℕ) → tag (value_of a ws) ≡ a
-unfolding tag
-tag_of NotANumber ws = refl
-tag_of PositiveInfinity ws = refl
-tag_of NegativeInfinity ws = refl
-tag_of Finite ws = refl
+one_proof : (m n : ℕ) → IsProp (m ≤ n)
+one_proof m n = Prim.hlevel props
 
-words_of : (a : Standing) (vs ws : List ℕ) → Eight vs → Eight ws → Cleared a vs → Cleared a ws → value_of a vs ≡ value_of a ws → vs ≡ ws
-words_of NotANumber vs ws g h c d e = c ∙ sym d
-words_of PositiveInfinity vs ws g h c d e = c ∙ sym d
-words_of NegativeInfinity vs ws g h c d e = c ∙ sym d
-words_of Finite vs ws g h c d e = words_signed vs ws g h (same_finite _ _ _ refl e)
+same_held : (n m : ℕ) (s t : Sum) → n ≡ m → s ≡ t → (h : size s ≤ n * 2 ^ 191) (k : size t ≤ m * 2 ^ 191) → held n s h ≡ held m t k
+same_held n m s t e f =
+    subst (λ j. (h : size s ≤ n * 2 ^ 191) (k : size t ≤ j * 2 ^ 191) → held n s h ≡ held j t k) e
+    (subst (λ u. (h : size s ≤ n * 2 ^ 191) (k : size u ≤ n * 2 ^ 191) → held n s h ≡ held n u k) f
+    (λ h k. ap (held n s) (one_proof (size s) (n * 2 ^ 191) h k)))
 
--- the value determines the fields of a sum
-pub sum_fields : (s t : Sum) → Sound s → Sound t → value s ≡ value t → s ≡ t
-sum_fields s t g h e =
-    let standing : s.standing ≡ t.standing = sym (tag_of s.standing s.words) ∙ ap tag e ∙ tag_of t.standing t.words in
-    let words = words_of t.standing s.words t.words g.eight h.eight
-    (subst (λ a. Cleared a s.words) standing g.cleared) h.cleared
-    (ap (λ a. value_of a s.words) (sym standing) ∙ e) in
-    ap₂ sum standing words
+pub same_fields : (r r' : Register) → r.count ≡ r'.count → r.sum ≡ r'.sum → r ≡ r'
+unfolding held
+same_fields r r' e f = same_held r.count r'.count r.sum r'.sum e f r.bounded r'.bounded
+
+-- the derived equality
+pub decided : (r r' : Register) → Decides (RegisterPartialEq.ghosts.eq r r') (r ≡ r')
+decided r r' =
+    let both = Decides-and _ _ (Decides-eqb r.count r'.count) (sums_decided r.sum r'.sum) in
+    (λ e. let (count, sum) = both.0 e in same_fields r r' count sum, λ e. both.1 (ap (λ x. x.count) e, ap (λ x. x.sum) e))
 
 pub equal_fields : (r r' : Register) (ts ts' : List Value) → Has r ts → Has r' ts' → SameTerms ts ts' → r ≡ r'
 equal_fields r r' ts ts' has has' (long, sum) =
-    ap₂ register (has.counted ∙ long ∙ sym has'.counted)
-    (sum_fields r.sum r'.sum has.bounded.sound has'.bounded.sound (has.summed ∙ sum ∙ sym has'.summed))
+    same_fields r r' (has.counted ∙ long ∙ sym has'.counted) (value_once r.sum r'.sum (has.summed ∙ sum ∙ sym has'.summed))
 
 pub equal_exactly : (r r' : Register) → EqualExactlyWhen r r'
 equal_exactly r r' ts ts' k k' =

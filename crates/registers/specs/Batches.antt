@@ -1,34 +1,23 @@
 -- Terms that go in together, by their number and their exact sum.
-use Rattle.std.specs.Prelude.{◌≡◌, ℕ, ◌+◌, ◌*◌, ◌^◌, ◌<◌, ◌≤◌, length, Some, None, Ok, Err, Option, Result}
+use Rattle.std.specs.Prelude.{◌≡◌, ℕ, ◌+◌, ◌<◌, ◌≤◌, length, Some, None, Ok, Err, Option, Result}
 use Rattle.formats.specs.Refusals.{Refuses}
+use Rattle.formats.specs.Value.{Value}
 use Rattle.formats.specs.declared.fault.Fault.{Fault}
-use Rattle.sums.specs.Sums.{value, size, Sound}
+use Rattle.sums.specs.Sums.{value}
 use Rattle.terms.specs.Offers.{Offer, refusal, terms}
 use Rattle.terms.specs.Terms.{exact_sum}
 use Rattle.registers.specs.Calls.{limit}
 use Rattle.registers.specs.declared.batch.Batch.{Batch}
-use Rattle.registers.specs.declared.register.Register.{Register}
 
--- the bound of a register, for more terms than one can count
-pub record BatchBounded (b : Batch) : Type 0 where
-  pub sound : Sound b.sum
-  pub bound : size b.sum ≤ b.count * 2 ^ 191
+-- the terms of an offer together, by their number and their total, or its refusal
+abbrev pub Comes : {T : Type 0} → (T → ℕ) → (T → Value) → Offer → Result T Fault → Type 0
+Comes number total (refusal n place) (Ok t) = ⊥
+Comes number total (refusal n place) (Err f) = Refuses n place f
+Comes number total (terms ts) (Ok t) = (number t ≡ length ts) × (total t ≡ exact_sum ts)
+Comes number total (terms ts) (Err f) = ⊥
 
-abbrev pub BoundedIfAny : Result Batch Fault → Type 0
-BoundedIfAny (Ok b) = BatchBounded b
-BoundedIfAny (Err f) = Unit {0}
-
--- the terms of an offer together, or its refusal
 abbrev pub Gathers : Offer → Result Batch Fault → Type 0
-Gathers (refusal number place) (Ok b) = ⊥
-Gathers (refusal number place) (Err f) = Refuses number place f
-Gathers (terms ts) (Ok b) = (b.count ≡ length ts) × (value b.sum ≡ exact_sum ts)
-Gathers (terms ts) (Err f) = ⊥
-
--- the terms of a register together
-abbrev pub Holds : Register → Result Batch Fault → Type 0
-Holds r (Ok b) = (b.count ≡ r.count) × (b.sum ≡ r.sum)
-Holds r (Err f) = ⊥
+Gathers = Comes (λ b. b.count) (λ b. value b.sum)
 
 -- a count with more terms, or none past the limit
 abbrev pub Grows : ℕ → ℕ → Option ℕ → Type 0

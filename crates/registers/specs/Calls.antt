@@ -9,25 +9,18 @@ use Rattle.rounding.specs.Rule.{Rule}
 use Rattle.rounding.specs.declared.answers.Mark.{Mark}
 use Rattle.rounding.specs.declared.answers.Saturation.{Saturation}
 use Rattle.sums.specs.Exact.{plus}
-use Rattle.sums.specs.Sums.{value, size, Sound}
+use Rattle.sums.specs.Sums.{value}
 use Rattle.terms.specs.Offers.{Offer, refusal, terms}
 use Rattle.terms.specs.Terms.{exact_sum}
 use Rattle.registers.specs.declared.register.Register.{Register}
 
--- the bound that each call finds and leaves: each term is below 2^191 units of 2^-96
-pub record Bounded (r : Register) : Type 0 where
-  pub sound : Sound r.sum
-  pub bound : size r.sum ≤ r.count * 2 ^ 191
-
 -- no term yet
 pub record New (r : Register) : Type 0 where
-  pub bounded : Bounded r
   pub none : r.count ≡ 0
   pub zero : value r.sum ≡ finite (pos 0)
 
 -- the register has just these terms
 pub record Has (r : Register) (ts : List Value) : Type 0 where
-  pub bounded : Bounded r
   pub counted : r.count ≡ length ts
   pub summed : value r.sum ≡ exact_sum ts
 
@@ -37,7 +30,6 @@ limit = 4294967295
 
 -- n terms of the exact sum v went in
 pub record Brought (n : ℕ) (v : Value) (old new : Register) : Type 0 where
-  pub bounded : Bounded new
   pub fits : old.count + n ≤ limit
   pub counted : new.count ≡ old.count + n
   pub summed : value new.sum ≡ plus (value old.sum) v

@@ -4,3 +4,4 @@ pub mod Batches
 pub mod Calls
 pub mod Histories
 pub mod Laws
+pub mod TermBound

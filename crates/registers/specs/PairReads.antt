@@ -4,19 +4,15 @@ use Rattle.formats.specs.Meaning.{Meaning}
 use Rattle.formats.specs.Refusals.{Refuses}
 use Rattle.formats.specs.declared.fault.Fault.{Fault}
 use Rattle.terms.specs.Offers.{Offer, terms}
-use Rattle.registers.specs.Runs.{bytes_of, CodesOf, x_code, y_code, pair_terms, at, bad_pair, bad_code, unless_bad, pairs}
+use Rattle.registers.specs.Runs.{bytes_of, wide_at, CodesOf, x_code, y_code, pair_terms, at, bad_pair, bad_code, unless_bad, pairs}
 use Rattle.registers.specs.declared.pairs.Pairs.{Pairs}
 
 pub record PairsOf (m n : Meaning) (p : Pairs) : Type 0 where
   pub x : CodesOf m p.x
   pub y : CodesOf n p.y
 
-pub record Narrow (p : Pairs) : Type 0 where
-  pub x : p.x.width ≤ 16
-  pub y : p.y.width ≤ 16
-
 abbrev pub bytes_of_pair : Pairs → ℕ
-bytes_of_pair p = bytes_of p.x.wide + bytes_of p.y.wide
+bytes_of_pair p = bytes_of (wide_at p.x.width) + bytes_of (wide_at p.y.width)
 
 pub record BothFit (m n : Meaning) (run : List ℕ) (i x y : ℕ) : Type 0 where
   pub x_is : x ≡ x_code m n run i

@@ -8,8 +8,11 @@ use Rattle.terms.specs.Offers.{Offer, refusal, terms, scale_fits, code_fits, pai
 use Rattle.registers.specs.declared.codes.Codes.{Codes}
 
 -- a code takes one byte up to 8 bits, and else two, the lower byte first
+abbrev pub wide_at : ℕ → Bool
+wide_at width = nat_lt 8 width
+
 abbrev pub wide : Meaning → Bool
-wide m = nat_lt 8 m.width
+wide m = wide_at m.width
 
 abbrev pub bytes_of : Bool → ℕ
 bytes_of w = cond w 2 1
@@ -19,14 +22,13 @@ abbrev pub code_at : Bool → List ℕ → ℕ → ℕ
 code_at w run place = cond w (slice_index run place + 256 * slice_index run (place + 1)) (slice_index run place)
 
 -- the code at a place, or refusal 2 there if it is 2^K or more
-abbrev pub CodeRead : Bool → ℕ → List ℕ → ℕ → Result ℕ Fault → Type 0
-CodeRead w width run place (Ok c) = (c ≡ code_at w run place) × (c < 2 ^ width)
-CodeRead w width run place (Err f) = Refuses 2 place f × (2 ^ width ≤ code_at w run place)
+abbrev pub CodeRead : (width : ℕ) → List ℕ → (place : ℕ) → Result ℕ Fault → Type 0
+CodeRead width run place (Ok c) = (c ≡ code_at (wide_at width) run place) × (c < 2 ^ width)
+CodeRead width run place (Err f) = Refuses 2 place f × (2 ^ width ≤ code_at (wide_at width) run place)
 
--- a format's width, and whether its codes take two bytes
-pub record CodesOf (m : Meaning) (c : Codes) : Type 0 where
-  pub width : c.width ≡ m.width
-  pub wide : c.wide ≡ wide m
+-- the codes of a format
+abbrev pub CodesOf : Meaning → Codes → Type 0
+CodesOf m c = c.width ≡ m.width
 
 abbrev pub code_bytes : Meaning → ℕ
 code_bytes m = bytes_of (wide m)

@@ -1,6 +1,5 @@
 // Codes in a run of bytes.
-ghost use Rattle.std.specs.Prelude.{◌≡◌, ◌+◌, ◌*◌, ◌^◌, ◌<◌, ◌≤◌, length};
-ghost use Rattle.registers.specs.Runs.{bytes_of, code_at, CodesOf, CodeRead};
+ghost use Rattle.std.specs.Prelude.{◌≤◌};
 
 use formats::fault::Fault;
 use formats::format::Format;
@@ -10,30 +9,31 @@ use formats::format::Format;
 #[derive(Clone, Copy)]
 pub(crate) struct Codes {
     pub(crate) width: u8,
-    pub(crate) wide: bool,
+    ghost narrow: { width ≤ 16 },
 }
 
 impl Codes {
+    ghost use Rattle.std.specs.Prelude.{◌≡◌, ◌+◌, ◌*◌, ◌^◌, ◌<◌, length, nat_lt};
+    ghost use Rattle.registers.specs.Runs.{bytes_of, wide_at, code_at, CodesOf, CodeRead};
+
     pub(crate) fn of<F: Format>(format: &F) -> Codes
-        ensures { (CodesOf (F.Format.meaning format.now) result) × (result.width ≤ 16) }
+        ensures { CodesOf (F.Format.meaning format.now) result }
     {
-        let width = format.shape().width;
         Codes {
-            width,
-            wide: width > 8,
+            width: format.shape().width,
         }
     }
 
     pub(crate) fn bytes(&self) -> usize
-        ensures { result ≡ bytes_of self.now.wide }
+        ensures { result ≡ bytes_of (wide_at self.now.width) }
     {
-        if self.wide { 2 } else { 1 }
+        if self.width > 8 { 2 } else { 1 }
     }
 
     // The code at a place; refused (2) there if it is 2^K or more.
     pub(crate) fn at(&self, run: &[u8], place: usize) -> Result<u16, Fault>
-        requires { (self.now.width ≤ 16) × (place + bytes_of self.now.wide ≤ length run.now) }
-        ensures { CodeRead self.now.wide self.now.width run.now place result }
+        requires { place + bytes_of (wide_at self.now.width) ≤ length run.now }
+        ensures { CodeRead self.now.width run.now place result }
     {
         let code = self.joined(run, place);
         if u32::from(code) >= 1 << self.width {
@@ -43,11 +43,11 @@ impl Codes {
     }
 
     fn joined(&self, run: &[u8], place: usize) -> u16
-        requires { place + bytes_of self.now.wide ≤ length run.now }
-        ensures { result ≡ code_at self.now.wide run.now place }
+        requires { place + bytes_of (wide_at self.now.width) ≤ length run.now }
+        ensures { result ≡ code_at (wide_at self.now.width) run.now place }
     {
-        if self.wide {
-            u16::from(run[place]) + 256 * u16::from(run[place + 1])
+        if self.width > 8 {
+            u16::from_le_bytes([run[place], run[place + 1]])
         } else {
             u16::from(run[place])
         }

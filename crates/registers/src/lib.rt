@@ -3,6 +3,7 @@
 
 pub mod batch;
 mod codes;
+mod one;
 mod pairs;
 mod products;
 pub mod register;

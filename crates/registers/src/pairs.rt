@@ -1,7 +1,7 @@
 // Pairs of codes in a run of bytes, x code then y code.
 ghost use Rattle.std.specs.Prelude.{◌≡◌, ◌+◌, ◌*◌, ◌^◌, ◌<◌, ◌≤◌, length};
 ghost use Rattle.formats.specs.Meaning.{Meaning};
-ghost use Rattle.registers.specs.PairReads.{bytes_of_pair, PairsOf, Narrow, PairRead};
+ghost use Rattle.registers.specs.PairReads.{bytes_of_pair, PairsOf, PairRead};
 
 use crate::codes::Codes;
 use formats::fault::Fault;
@@ -16,8 +16,7 @@ pub(crate) struct Pairs {
 
 impl Pairs {
     pub(crate) fn of<F: Format, G: Format>(x_format: &F, y_format: &G) -> Pairs
-        ensures of { PairsOf (F.Format.meaning x_format.now) (G.Format.meaning y_format.now) result }
-        ensures narrow { Narrow result }
+        ensures { PairsOf (F.Format.meaning x_format.now) (G.Format.meaning y_format.now) result }
     {
         Pairs {
             x: Codes::of(x_format),
@@ -33,8 +32,7 @@ impl Pairs {
 
     // The codes of the i-th pair; refused (2) at the first of them that is 2^K or more.
     pub(crate) fn at(&self, run: &[u8], i: usize) -> Result<(u16, u16), Fault>
-        requires narrow { Narrow self.now }
-        requires within { i * bytes_of_pair self.now + bytes_of_pair self.now ≤ length run.now }
+        requires { i * bytes_of_pair self.now + bytes_of_pair self.now ≤ length run.now }
         ensures { (m n : Meaning) → PairsOf m n self.now → PairRead m n run.now i result }
     {
         let place = i * self.bytes();

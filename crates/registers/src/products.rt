@@ -1,8 +1,7 @@
 // The products of a run of pairs of codes.
 ghost use Rattle.std.specs.Prelude.{◌≡◌, ℕ, ◌+◌, ◌*◌, ◌/◌, ◌%◌, ◌^◌, ◌<◌, ◌≤◌};
-ghost use Rattle.terms.specs.Offers.{ScaleFits};
-ghost use Rattle.registers.specs.Batches.{BoundedIfAny, Gathers};
-ghost use Rattle.registers.specs.PairReads.{PairsOf, Narrow, whole_offer};
+ghost use Rattle.registers.specs.Batches.{Gathers};
+ghost use Rattle.registers.specs.PairReads.{PairsOf, whole_offer};
 ghost use Rattle.registers.specs.Runs.{dot_offer};
 
 use crate::batch::Batch;
@@ -10,6 +9,7 @@ use crate::pairs::Pairs;
 use formats::fault::Fault;
 use formats::format::Format;
 use sums::sum::Sum;
+use terms::scale::Scale;
 use terms::term::Term;
 
 // X × Y × 2^scale of each pair of codes, x code then y code. Refused: a scale outside -32 to 31 (4),
@@ -20,12 +20,9 @@ pub(crate) fn products<F: Format, G: Format>(
     scale: i8,
     run: &[u8],
 ) -> Result<Batch, Fault>
-    ensures bounded { BoundedIfAny result }
-    ensures gathers { Gathers (dot_offer (F.Format.meaning x_format.now) (G.Format.meaning y_format.now) scale run.now) result }
+    ensures { Gathers (dot_offer (F.Format.meaning x_format.now) (G.Format.meaning y_format.now) scale run.now) result }
 {
-    if scale < -32 || scale > 31 {
-        return Err(Fault::ScaleOutOfRange);
-    }
+    let scale = Scale::try_from(scale)?;
     let pairs = Pairs::of(x_format, y_format);
     if run.len() % pairs.bytes() != 0 {
         return Err(Fault::NotWholeCodes);
@@ -37,21 +34,18 @@ pub(crate) fn products<F: Format, G: Format>(
 fn gathered<F: Format, G: Format>(
     x_format: &F,
     y_format: &G,
-    scale: i8,
+    scale: Scale,
     run: &[u8],
     pairs: Pairs,
 ) -> Result<Batch, Fault>
-    requires scale { ScaleFits scale }
-    requires of { PairsOf (F.Format.meaning x_format.now) (G.Format.meaning y_format.now) pairs }
-    requires narrow { Narrow pairs }
-    ensures bounded { BoundedIfAny result }
-    ensures gathers { Gathers (whole_offer (F.Format.meaning x_format.now) (G.Format.meaning y_format.now) scale run.now) result }
+    requires { PairsOf (F.Format.meaning x_format.now) (G.Format.meaning y_format.now) pairs }
+    ensures { Gathers (whole_offer (F.Format.meaning x_format.now) (G.Format.meaning y_format.now) scale.power run.now) result }
 {
     let count = run.len() / pairs.bytes();
     let mut sum = Sum::zero();
     for i in 0..count {
         let (x, y) = pairs.at(run, i)?;
-        let term = Term::product(x_format, y_format, scale, x, y)?;
+        let term = Term::pair(x_format, y_format, scale, x, y)?;
         // Mostly the term is finite, and then only its three parts go to the sum.
         match term {
             Term::Finite(term) => sum.add_term(term.negative, term.digits, term.place),

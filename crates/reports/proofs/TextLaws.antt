@@ -1,38 +1,35 @@
 -- Text that is written piece after piece.
-use Rattle.std.proofs.Common.{◌≡◌, ℕ, ◌+◌, ◌/◌, ◌%◌, ◌^◌, ◌<◌, ◌≤◌, List, [], ◌∷◌, ◌++◌, length, get_or, take, decimal, sym, ap, ◌∙◌, mod-eq_of_lt}
-use Rattle.std.proofs.lemmas.Fmt.{decimal_digit, decimal_step}
-use Rattle.std.proofs.lemmas.List.{take_more, take_all, append-nil, append_assoc}
-use Rattle.reports.specs.Texts.{line_text, lines_text}
-use Rattle.sheets.specs.declared.line.Line.{Line}
+use Rattle.std.proofs.Common.{◌≡◌, ℕ, ◌/◌, ◌%◌, ◌<◌, List, ◌++◌, zero, suc, Bool, true, false, ◌&&◌, eqb, refl, w16, arith, ap, ◌∙◌}
+use Rattle.std.proofs.lemmas.Bool.Decides.{Decides-eqb, Decides-below_and}
+use Rattle.std.proofs.lemmas.List.{append_assoc}
+use Rattle.hex.specs.Hex.{lower_digits, encode_with, encode_lower}
+use Rattle.std.specs.Prelude.{slice_index}
+use Rattle.std.specs.Int.{to_be_bytes}
+use Rattle.std.specs.Fmt.{digit_glyph}
+use Rattle.reports.specs.Texts.{hexadecimal}
 
 -- two pieces, one after the other
 pub joined : (before x y : List ℕ) {middle after : List ℕ} → middle ≡ before ++ x → after ≡ middle ++ y → after ≡ before ++ (x ++ y)
 joined before x y p q = q ∙ ap (λ t. t ++ y) p ∙ append_assoc before x y
 
--- one byte, by what it is
-pub written : (before : List ℕ) {after : List ℕ} {a b : ℕ} → after ≡ before ++ (a ∷ []) → a ≡ b → after ≡ before ++ (b ∷ [])
-written before p q = p ∙ ap (λ d. before ++ (d ∷ [])) q
+-- so many digits of the table are the digits' glyphs
+abbrev same : ℕ → Bool
+same d = eqb (slice_index lower_digits d) (digit_glyph false d)
 
--- the last digit of a number, after the others or alone
-pub digit_more : (before : List ℕ) {middle after : List ℕ} (n : ℕ) → 10 ≤ n → n < 2 ^ 64 → middle ≡ before ++ decimal (n / 10) → after ≡ middle ++ ((48 + n % 10) ∷ []) → after ≡ before ++ decimal n
-digit_more before n ten fits p q = joined before (decimal (n / 10)) ((48 + n % 10) ∷ []) p q ∙ ap (λ t. before ++ t) (sym (decimal_step n ten fits))
+abbrev all_same : ℕ → Bool
+all_same zero = true
+all_same (suc d) = same d && all_same d
 
-pub digit_alone : (before : List ℕ) {middle after : List ℕ} (n : ℕ) → n < 10 → middle ≡ before → after ≡ middle ++ ((48 + n % 10) ∷ []) → after ≡ before ++ decimal n
-digit_alone before n lt p q =
-    q ∙ ap (λ t. t ++ ((48 + n % 10) ∷ [])) p
-    ∙ ap (λ d. before ++ ((48 + d) ∷ [])) (mod-eq_of_lt lt) ∙ ap (λ t. before ++ t) (sym (decimal_digit n lt))
+glyph : (d : ℕ) → d < 16 → slice_index lower_digits d ≡ digit_glyph false d
+glyph = (Decides-below_and same (λ d. slice_index lower_digits d ≡ digit_glyph false d) all_same (λ d. Decides-eqb (slice_index lower_digits d) (digit_glyph false d)) refl (λ _. refl) 16).0 refl
 
-lines_push : (ls : List Line) (l : Line) → lines_text (ls ++ (l ∷ [])) ≡ lines_text ls ++ line_text l
-lines_push [] l = append-nil (line_text l)
-lines_push (x ∷ ls) l = ap (λ t. line_text x ++ t) (lines_push ls l) ∙ sym (append_assoc (line_text x) (lines_text ls) (line_text l))
-
--- one more line at the end of a text
-pub lines_more : (before text after piece : List ℕ) (ls : List Line) (i : ℕ) (d : Line) → i < length ls → text ≡ before ++ lines_text (take i ls) → after ≡ text ++ piece → piece ≡ line_text (get_or ls i d) → after ≡ before ++ lines_text (take (i + 1) ls)
-lines_more before text after piece ls i d lt so_far pushed is =
-    pushed
-    ∙ ap (λ t. t ++ piece) so_far
-    ∙ append_assoc before (lines_text (take i ls)) piece
-    ∙ ap (λ t. before ++ t) (ap (λ p. lines_text (take i ls) ++ p) is ∙ sym (ap lines_text (take_more ls i d lt) ∙ lines_push (take i ls) (get_or ls i d)))
-
-pub lines_all : (before text : List ℕ) (ls : List Line) (i : ℕ) → length ls ≤ i → text ≡ before ++ lines_text (take i ls) → text ≡ before ++ lines_text ls
-lines_all before text ls i le so_far = so_far ∙ ap (λ t. before ++ lines_text t) (take_all i ls le)
+-- a code's two bytes in hexadecimal
+pub hexadecimal_is : (n : ℕ) → n < 65536 → encode_lower (to_be_bytes w16 n) ≡ hexadecimal n
+unfolding encode_with
+hexadecimal_is n lt =
+    let glyph_of = λ (x y : ℕ) (below : x < 16) (e : x ≡ y). glyph x below ∙ ap (digit_glyph false) e in
+    let a = glyph_of (n / 256 % 256 / 16) (n / 4096) (omega arith) (omega arith) in
+    let b = glyph_of (n / 256 % 256 % 16) (n / 256 % 16) (omega arith) (omega arith) in
+    let c = glyph_of (n % 256 / 16) (n / 16 % 16) (omega arith) (omega arith) in
+    let d = glyph_of (n % 256 % 16) (n % 16) (omega arith) (omega arith) in
+    cc

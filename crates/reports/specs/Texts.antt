@@ -1,5 +1,5 @@
 -- The text of a report.
-use Rattle.std.specs.Prelude.{ℕ, ◌/◌, ◌%◌, false, List, [], ◌∷◌, ◌++◌, Some, None, codes, decimal, Option}
+use Rattle.std.specs.Prelude.{ℕ, ◌/◌, ◌%◌, false, List, [], ◌∷◌, ◌++◌, Some, None, codes, decimal, flat_map, Option}
 use Rattle.std.specs.Fmt.{digit_glyph}
 use Rattle.records.specs.Refusals.{Layer, in_arithmetic, in_record, in_sheet, Refusal}
 use Rattle.rounding.specs.declared.answers.Mark.{Mark}
@@ -33,8 +33,7 @@ fault_text r =
     codes "fault " ++ (decimal r.number ++ (codes " " ++ (layer_word r.layer ++ (codes " " ++ (decimal r.place ++ codes "\n")))))
 
 abbrev pub lines_text : List Line → List ℕ
-lines_text [] = []
-lines_text (l ∷ ls) = line_text l ++ lines_text ls
+lines_text ls = flat_map line_text ls
 
 abbrev pub end_text : Option Refusal → List ℕ
 end_text None = []

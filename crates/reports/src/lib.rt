@@ -1,4 +1,5 @@
 // Reports as text.
 #![tactic(auto)]
 
+mod refusal;
 pub mod text;

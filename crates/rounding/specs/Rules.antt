@@ -1,12 +1,14 @@
 -- The rounding rules by their tables, and their bytes.
-use Rattle.std.specs.Prelude.{◌≡◌, ℕ, ◌≤◌, Bool, true, false, not, Some, None, Option}
+use Rattle.std.specs.Prelude.{◌≡◌, ℕ, ◌≤◌, Bool, true, false, not, Ok, Err, Result}
 use Rattle.rounding.specs.Rule.{Rule}
 use Rattle.sums.specs.declared.magnitude.Remainder.{Remainder}
 use Rattle.sums.specs.declared.magnitude.Remainder.TheVariants.{BelowHalf, Half, AboveHalf}
 use Rattle.rounding.specs.declared.answers.Saturation.{Saturation}
 use Rattle.rounding.specs.declared.answers.Saturation.TheVariants.{SatFinite, SatPropagate, OvfInf}
+use Rattle.rounding.specs.declared.modes.NoSuchMode.{NoSuchMode}
 use Rattle.rounding.specs.declared.rules.AnyRule.{AnyRule}
 use Rattle.rounding.specs.declared.rules.AnyRule.TheVariants.{TiesToEven, TiesToAway, Upward, Downward, Chop}
+use Rattle.rounding.specs.declared.rules.NoSuchRule.{NoSuchRule}
 
 abbrev rule : (Bool → Bool → Remainder → Bool) → (Bool → Bool) → Rule
 rule away overflows = record { away = away; overflows = overflows }
@@ -52,15 +54,15 @@ rule_byte Downward = 3
 rule_byte Chop = 4
 
 -- the rule of a byte, or no rule from 5 up
-abbrev pub ByRuleByte : ℕ → Option AnyRule → Type 0
-ByRuleByte b (Some r) = rule_byte r ≡ b
-ByRuleByte b None = 5 ≤ b
+abbrev pub ByRuleByte : ℕ → Result AnyRule NoSuchRule → Type 0
+ByRuleByte b (Ok r) = rule_byte r ≡ b
+ByRuleByte b (Err e) = 5 ≤ b
 
 abbrev pub mode_byte : Saturation → ℕ
 mode_byte SatFinite = 0
 mode_byte SatPropagate = 1
 mode_byte OvfInf = 2
 
-abbrev pub ByModeByte : ℕ → Option Saturation → Type 0
-ByModeByte b (Some m) = mode_byte m ≡ b
-ByModeByte b None = 3 ≤ b
+abbrev pub ByModeByte : ℕ → Result Saturation NoSuchMode → Type 0
+ByModeByte b (Ok m) = mode_byte m ≡ b
+ByModeByte b (Err e) = 3 ≤ b

@@ -122,19 +122,25 @@ pub enum AnyRule {
     Chop,
 }
 
-impl AnyRule {
-    // 0 NearestTiesToEven, 1 NearestTiesToAway, 2 TowardPositive, 3 TowardNegative, 4 TowardZero; no
-    // other byte is a rule's.
-    pub fn from_byte(byte: u8) -> Option<AnyRule>
-        ensures { ByRuleByte byte result }
-    {
+// A byte that is no rule's.
+#[derive(Clone, Copy, PartialEq, Eq)]
+pub struct NoSuchRule;
+
+// 0 NearestTiesToEven, 1 NearestTiesToAway, 2 TowardPositive, 3 TowardNegative, 4 TowardZero; no
+// other byte is a rule's.
+impl TryFrom<u8> for AnyRule {
+    type Error = NoSuchRule;
+
+    ghost try_from_gives = { ByRuleByte };
+
+    fn try_from(byte: u8) -> Result<AnyRule, NoSuchRule> {
         match byte {
-            0 => Some(AnyRule::TiesToEven),
-            1 => Some(AnyRule::TiesToAway),
-            2 => Some(AnyRule::Upward),
-            3 => Some(AnyRule::Downward),
-            4 => Some(AnyRule::Chop),
-            _ => None,
+            0 => Ok(AnyRule::TiesToEven),
+            1 => Ok(AnyRule::TiesToAway),
+            2 => Ok(AnyRule::Upward),
+            3 => Ok(AnyRule::Downward),
+            4 => Ok(AnyRule::Chop),
+            _ => Err(NoSuchRule),
         }
     }
 }

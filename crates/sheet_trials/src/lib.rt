@@ -8,9 +8,7 @@ mod tests {
     use std::test::Fail;
 
     fn prints(rt: &(impl Abort + AllocGlobal), sheet: &[u8], expected: &str) -> Result<(), Fail> {
-        let Ok(text) = printed(rt.alloc(), sheet) else {
-            return Err(Fail::new("no memory"));
-        };
+        let text = printed(rt.alloc(), sheet)?;
         assert!(rt; text.as_slice() == expected.as_bytes());
         Ok(())
     }
@@ -70,38 +68,25 @@ mod tests {
     // One term is joined to itself until the register is full, and the sheet ends there.
     #[test]
     fn a_full_register_ends_the_sheet(rt: HostRuntime) -> Result<(), Fail> {
-        let mut sheet = Vec::new(rt.alloc());
-        let mut made = sheet
-            .extend_from_slice(&[5, 0, 2, 0, 1, 0x84, 0xC0])
-            .is_ok();
+        let mut sheet = Vec::from_slice(rt.alloc(), &[5, 0, 2, 0, 1, 0x84, 0xC0])?;
         for _ in 0..33 {
-            made = made && sheet.extend_from_slice(&[4, 0, 4, 0, 1, 1]).is_ok();
+            sheet.extend_from_slice(&[4, 0, 4, 0, 1, 1])?;
         }
-        made = made
-            && sheet
-                .extend_from_slice(&[6, 0, 5, 0, 1, 0x84, 0, 0])
-                .is_ok();
-        assert!(rt; made);
+        sheet.extend_from_slice(&[6, 0, 5, 0, 1, 0x84, 0, 0])?;
         prints(&rt, sheet.as_slice(), "fault 5 arithmetic 193\n")
     }
 
     // A dot of 32,760 products and a reading fill a sheet; one byte more and nothing is run.
     #[test]
     fn the_longest_sheet(rt: HostRuntime) -> Result<(), Fail> {
-        let mut sheet = Vec::new(rt.alloc());
-        let mut made = sheet
-            .extend_from_slice(&[0xF6, 0xFF, 3, 0, 2, 0x84, 0x84, 0])
-            .is_ok();
+        let mut sheet = Vec::from_slice(rt.alloc(), &[0xF6, 0xFF, 3, 0, 2, 0x84, 0x84, 0])?;
         for _ in 0..32_760 {
-            made = made && sheet.extend_from_slice(&[0x40, 0x08]).is_ok();
+            sheet.extend_from_slice(&[0x40, 0x08])?;
         }
-        made = made
-            && sheet
-                .extend_from_slice(&[6, 0, 5, 0, 2, 0x83, 4, 1])
-                .is_ok();
-        assert!(rt; made && sheet.len() == 65_536);
+        sheet.extend_from_slice(&[6, 0, 5, 0, 2, 0x83, 4, 1])?;
+        assert!(rt; sheet.len() == 65_536);
         prints(&rt, sheet.as_slice(), "2 2 005f 32760 low\n")?;
-        assert!(rt; sheet.push(0).is_ok());
+        sheet.push(0)?;
         prints(&rt, sheet.as_slice(), "fault 11 sheet 65536\n")
     }
 }

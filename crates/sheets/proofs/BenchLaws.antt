@@ -1,6 +1,8 @@
 -- What a call on one of the four registers makes of the bench, and what its answer tells.
-use Rattle.std.proofs.Common.{◌≡◌, ℕ, zero, suc, ◌+◌, ◌<◌, ◌≤◌, Bool, true, false, cond, eqb, List, [], ◌∷◌, length, get_or, set, ℤ, Some, None, Ok, Err, Option, Result, sym, refl, ap, ◌∙◌, subst, ap₂, ⊎_elim, arith, length-set, get_or-set_other, get_or-set_same}
+use Rattle.std.proofs.Common.{◌≡◌, ℕ, zero, suc, ◌+◌, ◌<◌, ◌≤◌, Bool, true, false, cond, eqb, List, [], ◌∷◌, length, get_or, set, ℤ, Some, None, Ok, Err, Option, Result, sym, refl, ap, ◌∙◌, subst, ap₂, ⊎_elim, arith, w8, to_z, length-set, get_or-set_other, get_or-set_same}
 use lib.Seq.{set-get_or}
+use Rattle.std.proofs.lemmas.Bool.Decides.{nat_tests}
+use Rattle.std.proofs.lemmas.Int.{ints}
 use Rattle.std.proofs.lemmas.Bool.{cases_eq, eq-eqb, ne_eqb, lt-ltb, le-leb, lt-leb}
 use Rattle.formats.specs.AnyFormat.{meaning_of}
 use Rattle.formats.specs.Meaning.{Meaning}
@@ -143,6 +145,14 @@ offer_performs n codes i offset (offers.refusal number place) old d new (Err f) 
     rw placed (ap₂ (λ x y. refusal x in_arithmetic y) number_is (ap₂ ◌+◌ there place_is), same_bench old i d new same)
 offer_performs n codes i offset (terms us) old d new a r b lt placing keeps answers placed =
     brings_performs n codes (length us) i (exact_sum us) old d new a r b us lt refl refl keeps answers placed
+
+-- a dot's answer by formats that were told apart
+pub dot_answers : (f g : AnyFormat) (m n : Meaning) (scale told : ℤ) (run : List ℕ) (old : Register) (r : Result Unit Fault) (new : Register) → meaning_of f ≡ m → meaning_of g ≡ n → told ≡ scale → Answers (dot_offer m n told run) old r new → Answers (dot_offer (meaning_of f) (meaning_of g) scale run) old r new
+dot_answers f g m n scale told run old r new f-is g-is scale-is answers = rw (f-is, g-is, ← scale-is) answers
+
+-- a byte as two's complement
+pub signed_is : (b : ℕ) → b < 256 → to_z w8 b ≡ signed_byte b
+signed_is b lt = grind (arith, ints, nat_tests)
 
 pub clear_performs : (n r i : ℕ) (old : Bench) (new : Register) → RegisterAt 4 r (Ok i) → New new → Performs n (clear_fields r) old (Ok None) (changed old i new)
 clear_performs n r i old new (e, lt) is-new b keeps =

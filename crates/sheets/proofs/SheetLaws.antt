@@ -1,9 +1,10 @@
 -- A sheet, record after record.
-use Rattle.std.proofs.Common.{◌≡◌, ℕ, zero, suc, ◌+◌, ◌-◌, ◌*◌, ◌<◌, ◌≤◌, eqb, List, [], ◌∷◌, ◌++◌, length, take, drop, Some, None, Ok, Err, Option, sym, refl, ap, ◌∙◌, subst, ap₂, arith}
-use Rattle.std.proofs.lemmas.List.{append-nil, append_assoc, take_rest, length-drop, length-take-le}
+use Rattle.std.proofs.Common.{◌≡◌, ℕ, zero, suc, ◌+◌, ◌-◌, ◌*◌, ◌<◌, ◌≤◌, eqb, true, List, [], ◌∷◌, ◌++◌, length, take, drop, Some, None, Ok, Err, Option, sym, refl, ap, ◌∙◌, subst, ap₂, ◌⊎◌, drop-drop, arith}
+use Rattle.std.proofs.lemmas.List.{append-nil, append_assoc, take_rest, length-drop}
+use Rattle.std.proofs.lemmas.Bool.Decides.{nat_tests}
 use Rattle.std.proofs.lemmas.Bool.{le-leb, eq-eqb, ne_eqb, cond-true, cond-false}
 use Rattle.records.specs.Bodies.{parsed}
-use Rattle.records.specs.Entries.{Parsed}
+use Rattle.records.specs.Entries.{Parsed, refused}
 use Rattle.records.specs.Fields.{ByNumber}
 use Rattle.records.specs.Refusals.{Refusal, shifted, refusal_of}
 use Rattle.records.specs.declared.fault.RecordFault.{RecordFault}
@@ -16,36 +17,46 @@ use Rattle.sheets.specs.Steps.{Keeps, AllBounded, Tells, Performs, WholeHead, St
 use Rattle.sheets.specs.Verdicts.{Verdict, refuses, silent, tells, verdict, lists_after}
 use Rattle.sheets.specs.declared.bench.Bench.{Bench}
 use Rattle.sheets.specs.declared.fault.SheetFault.{SheetFault}
-use Rattle.sheets.specs.declared.fault.SheetFault.TheVariants.{InRecord}
+use Rattle.sheets.specs.declared.fault.SheetFault.TheVariants.{NoSuchKind, InRecord}
 use Rattle.sheets.specs.declared.fault.Stop.{Stop}
 use Rattle.sheets.specs.declared.line.Line.{Line}
 
 -- the kind of a number
-pub kind_of_lem : (n : ℕ) (k : Kind) → ByNumber n (Some k) → kind_of n ≡ Some k
+kind_of_lem : (n : ℕ) (k : Kind) → ByNumber n (Ok k) → kind_of n ≡ Some k
 kind_of_lem n Clear e = subst (λ m. kind_of m ≡ Some Clear) e refl
 kind_of_lem n Add e = subst (λ m. kind_of m ≡ Some Add) e refl
 kind_of_lem n Dot e = subst (λ m. kind_of m ≡ Some Dot) e refl
 kind_of_lem n Join e = subst (λ m. kind_of m ≡ Some Join) e refl
 kind_of_lem n Read e = subst (λ m. kind_of m ≡ Some Read) e refl
 
--- a record whose length is within what is left
-pub whole_head : (rest : List ℕ) (long n : ℕ) (kind : Kind) → 4 ≤ length rest → long ≡ record_length rest → n ≡ kind_number rest → ByNumber n (Some kind) → 2 ≤ long → long - 2 ≤ length rest - 4 → WholeHead rest kind (take (long - 2) (take (length rest - 4) (drop 4 rest)))
-whole_head rest long n kind four is number by two short =
-    let same : take (long - 2) (take (length rest - 4) (drop 4 rest)) ≡ body rest = ap₂ (λ (k : ℕ) (bytes : List ℕ). take (k - 2) bytes) is (take_rest rest 4) in
-    let left = length-drop 4 rest in
-    let counted : length (body rest) ≡ record_length rest - 2 = length-take-le (record_length rest - 2) (drop 4 rest) (omega arith) in
-    let count = ap length same ∙ counted in
-    record {
-      whole = rw (le-leb 4 (length rest) four, le-leb 2 (record_length rest) (omega arith), le-leb (record_bytes rest) (length rest) (omega arith)) refl;
-      kind_is = kind_of_lem (kind_number rest) kind (subst (λ m. ByNumber m (Some kind)) number by);
-      body_is = same;
-      long = omega arith;
-      within = omega arith;
-    }
+-- a whole record has its four bytes and its body within what is left
+whole_long : (rest : List ℕ) → is_whole rest ≡ true → (4 ≤ record_bytes rest) × (record_bytes rest ≤ length rest)
+whole_long rest whole = grind (arith, nat_tests)
 
--- what it comes to
-pub head_parsed : (rest : List ℕ) (kind : Kind) (bytes : List ℕ) → WholeHead rest kind bytes → parsed_head rest ≡ parsed kind bytes
-head_parsed rest kind bytes w = cond-true (is_whole rest) _ _ w.whole ∙ ap₂ of_kind w.kind_is (sym w.body_is)
+-- the length of a record fits what is left
+fits_whole : (rest : List ℕ) → 4 ≤ length rest → 2 ≤ record_length rest → record_length rest - 2 ≤ length rest - 4 → is_whole rest ≡ true
+fits_whole rest four two short = rw (le-leb 4 (length rest) four, le-leb 2 (record_length rest) two, le-leb (record_bytes rest) (length rest) (omega arith)) refl
+
+-- a record whose length is within what is left
+pub whole_head : (rest : List ℕ) (long n : ℕ) (kind : Kind) (bytes left : List ℕ) → 4 ≤ length rest → long ≡ record_length rest → n ≡ kind_number rest → ByNumber n (Ok kind) → 2 ≤ long → long - 2 ≤ length rest - 4 → bytes ≡ take (long - 2) (take (length rest - 4) (drop 4 rest)) → left ≡ drop (long - 2) (take (length rest - 4) (drop 4 rest)) → WholeHead rest kind bytes left
+whole_head rest long n kind bytes left four is number by two short bytes-is left-is = record {
+  whole = fits_whole rest four (omega arith) (omega arith);
+  kind_is = kind_of_lem (kind_number rest) kind (subst (λ m. ByNumber m (Ok kind)) number by);
+  body_is = bytes-is ∙ ap₂ (λ (k : ℕ) (bs : List ℕ). take (k - 2) bs) is (take_rest rest 4);
+  left_is =
+      let bytes-are : 4 + (record_length rest - 2) ≡ record_bytes rest = omega arith in
+      left-is ∙ ap₂ (λ (k : ℕ) (bs : List ℕ). drop (k - 2) bs) is (take_rest rest 4) ∙ drop-drop (record_length rest - 2) 4 rest ∙ ap (λ k. drop k rest) bytes-are;
+}
+
+-- and a kind that there is not
+pub no_kind : (rest : List ℕ) (long n : ℕ) → 4 ≤ length rest → long ≡ record_length rest → n ≡ kind_number rest → (n ≡ 0) ⊎ (5 < n) → 2 ≤ long → long - 2 ≤ length rest - 4 → parsed_head rest ≡ refused (sheet_refusal NoSuchKind)
+no_kind rest long n four is number other two short =
+    let none : kind_of (kind_number rest) ≡ None = grind (arith, nat_tests) in
+    cond-true (is_whole rest) _ _ (fits_whole rest four (omega arith) (omega arith)) ∙ ap (λ k. of_kind k (body rest)) none
+
+-- what the record at the head comes to
+pub head_parsed : (rest : List ℕ) (kind : Kind) (bytes left : List ℕ) → WholeHead rest kind bytes left → parsed_head rest ≡ parsed kind bytes
+head_parsed rest kind bytes left w = cond-true (is_whole rest) _ _ w.whole ∙ ap₂ of_kind w.kind_is (sym w.body_is)
 
 tells_fault : (n : ℕ) (v : Verdict) (f : RecordFault) → Tells refusal_of n v (Err f) → Tells sheet_refusal n v (Err (InRecord f))
 tells_fault n (refuses r) f e = e
@@ -64,16 +75,22 @@ pub step_refused : (n : ℕ) (rest : List ℕ) (p : Parsed) (old new : Bench) (f
 step_refused n rest p old new f is performs b keeps =
     tells_fault n (verdict b (parsed_head rest)) f (subst (λ q. Tells refusal_of n (verdict b q) (Err f)) is (performs b keeps).0)
 
-pub step_done : (n : ℕ) (rest bytes : List ℕ) (kind : Kind) (p : Parsed) (old new : Bench) (told : Option Line) → WholeHead rest kind bytes → p ≡ parsed kind bytes → Performs n p old (Ok told) new → (b : Book) → Keeps old b → Stepped n rest b told (4 + length bytes) new
-step_done n rest bytes kind p old new told whole is performs b keeps =
-    let same = is ∙ sym (head_parsed rest kind bytes whole) in
+pub step_done : (n : ℕ) (rest bytes left : List ℕ) (kind : Kind) (p : Parsed) (old new : Bench) (told : Option Line) → WholeHead rest kind bytes left → p ≡ parsed kind bytes → Performs n p old (Ok told) new → (b : Book) → Keeps old b → Stepped n rest b told left new
+step_done n rest bytes left kind p old new told whole is performs b keeps =
+    let same = is ∙ sym (head_parsed rest kind bytes left whole) in
     record {
+      whole = whole.whole;
       tells = tells_line n (verdict b (parsed_head rest)) told (subst (λ q. Tells refusal_of n (verdict b q) (Ok told)) same (performs b keeps).0);
       keeps = subst (λ q. Keeps new (lists_after b q)) same (performs b keeps).1;
-      bytes_are = whole.long;
-      some = omega arith;
-      within = whole.within;
+      left_is = whole.left_is;
     }
+
+-- less is left after it
+pub shorter : (n : ℕ) (rest left : List ℕ) (b : Book) (told : Option Line) (new : Bench) → Stepped n rest b told left new → length left < length rest
+shorter n rest left b told new s =
+    let (four, within) = whole_long rest s.whole in
+    let long : length left ≡ length rest - record_bytes rest = ap length s.left_is ∙ length-drop (record_bytes rest) rest in
+    omega arith
 
 -- registers that keep lists have their bounds
 pub all_bounded : (bench : Bench) (b : Book) → Keeps bench b → AllBounded bench
@@ -117,9 +134,10 @@ no_more zero b n place rest e = refl
 no_more (suc most) b n place rest e = cond-true (eqb (length rest) 0) _ _ (eq-eqb (length rest) 0 e)
 
 -- so many records of a sheet done, up to a place, and the lines that they told after those that were there
-pub record Done (sheet : List ℕ) (before now : List Line) (bench : Bench) (place number : ℕ) (rest : List ℕ) : Type 0 where
+pub record Done (sheet : List ℕ) (before now : List Line) (bench : Bench) (number : ℕ) (rest : List ℕ) : Type 0 where
   pub book : Book
   pub most : ℕ
+  pub place : ℕ
   pub so_far : List Line
   pub enough : length rest ≤ most
   pub keeps : Keeps bench book
@@ -128,10 +146,11 @@ pub record Done (sheet : List ℕ) (before now : List Line) (bench : Bench) (pla
   pub lines_are : now ≡ before ++ so_far
   pub outcome_is : remaining (length sheet) (λ i. []) 1 0 sheet ≡ prefixed so_far (remaining most book (number + 1) place rest)
 
-pub done_none : (sheet : List ℕ) (before : List Line) (bench : Bench) → Keeps bench (λ i. []) → Done sheet before before bench 0 0 sheet
+pub done_none : (sheet : List ℕ) (before : List Line) (bench : Bench) → Keeps bench (λ i. []) → Done sheet before before bench 0 sheet
 done_none sheet before bench keeps = record {
   book = λ i. [];
   most = length sheet;
+  place = 0;
   so_far = [];
   enough = omega arith;
   keeps = keeps;
@@ -141,25 +160,25 @@ done_none sheet before bench keeps = record {
   outcome_is = refl;
 }
 
-pub done_more : (sheet : List ℕ) (before now later : List Line) (old new : Bench) (place number bytes : ℕ) (rest left : List ℕ) (told : Option Line) → Done sheet before now old place number rest → 0 < length rest → ((b : Book) → Keeps old b → Stepped (number + 1) rest b told bytes new) → later ≡ now ++ line_of told → left ≡ drop bytes rest → Done sheet before later new (place + bytes) (number + 1) left
-done_more sheet before now later old new place number bytes rest left told d some steps is left_is =
+pub done_more : (sheet : List ℕ) (before now later : List Line) (old new : Bench) (number : ℕ) (rest left : List ℕ) (told : Option Line) → Done sheet before now old number rest → 0 < length rest → ((b : Book) → Keeps old b → Stepped (number + 1) rest b told left new) → later ≡ now ++ line_of told → Done sheet before later new (number + 1) left
+done_more sheet before now later old new number rest left told d some steps is =
     let s = steps d.book d.keeps in
-    let (fewer, most-is, next) = one_more d.most d.book (number + 1) place rest some d.enough in
-    let long : length left ≡ length rest - bytes = ap length left_is ∙ length-drop bytes rest in
-    let four = s.some in
-    let within = s.within in
+    let (fewer, most-is, next) = one_more d.most d.book (number + 1) d.place rest some d.enough in
+    let (four, within) = whole_long rest s.whole in
+    let long : length left ≡ length rest - record_bytes rest = ap length s.left_is ∙ length-drop (record_bytes rest) rest in
     let enough = d.enough in
     let place_is = d.place_is in
     let numbered = d.numbered in
     let after = lists_after d.book (parsed_head rest) in
+    let place = d.place + record_bytes rest in
     let v = verdict d.book (parsed_head rest) in
-    let there : remaining fewer after (number + 1 + 1) (place + record_bytes rest) (drop (record_bytes rest) rest) ≡ remaining fewer after (number + 1 + 1) (place + bytes) left =
-    ap (λ (k : ℕ). remaining fewer after (number + 1 + 1) (place + k) (drop k rest)) (sym s.bytes_are)
-    ∙ ap (remaining fewer after (number + 1 + 1) (place + bytes)) (sym left_is) in
-    let rest-is = remaining fewer after (number + 1 + 1) (place + bytes) left in
+    let later-is = remaining fewer after (number + 1 + 1) place left in
+    let there : remaining fewer after (number + 1 + 1) place (drop (record_bytes rest) rest) ≡ later-is =
+    ap (remaining fewer after (number + 1 + 1) place) (sym s.left_is) in
     record {
       book = after;
       most = fewer;
+      place = place;
       so_far = d.so_far ++ line_of told;
       enough = omega arith;
       keeps = s.keeps;
@@ -167,8 +186,8 @@ done_more sheet before now later old new place number bytes rest left told d som
       numbered = omega arith;
       lines_are = is ∙ ap (λ (ls : List Line). ls ++ line_of told) d.lines_are ∙ append_assoc before d.so_far (line_of told);
       outcome_is = d.outcome_is
-          ∙ ap (prefixed d.so_far) (next ∙ ap (followed (number + 1) place v) there ∙ followed-told (number + 1) place v told rest-is s.tells)
-          ∙ ap (λ (ls : List Line). outcome ls rest-is.fault) (sym (append_assoc d.so_far (line_of told) rest-is.lines));
+          ∙ ap (prefixed d.so_far) (next ∙ ap (followed (number + 1) d.place v) there ∙ followed-told (number + 1) d.place v told later-is s.tells)
+          ∙ ap (λ (ls : List Line). outcome ls later-is.fault) (sym (append_assoc d.so_far (line_of told) later-is.lines));
     }
 
 follows_at : (sheet : List ℕ) (before now so_far : List Line) (fault : Option Stop) (r : Option Refusal) → now ≡ before ++ so_far → remaining (length sheet) (λ i. []) 1 0 sheet ≡ prefixed so_far (outcome [] r) → ended fault ≡ r → Follows sheet before fault now
@@ -182,14 +201,17 @@ follows_at sheet before now so_far fault r is e ends = (
 )
 
 -- the end of a sheet, and a record that is refused
-pub done_all : (sheet : List ℕ) (before now : List Line) (bench : Bench) (place number : ℕ) (rest : List ℕ) → Done sheet before now bench place number rest → length rest ≡ 0 → Follows sheet before None now
-done_all sheet before now bench place number rest d e =
+pub done_all : (sheet : List ℕ) (before now : List Line) (bench : Bench) (number : ℕ) (rest : List ℕ) → Done sheet before now bench number rest → length rest ≡ 0 → Follows sheet before None now
+done_all sheet before now bench number rest d e =
     follows_at sheet before now d.so_far None None d.lines_are
-    (d.outcome_is ∙ ap (prefixed d.so_far) (no_more d.most d.book (number + 1) place rest e)) refl
+    (d.outcome_is ∙ ap (prefixed d.so_far) (no_more d.most d.book (number + 1) d.place rest e)) refl
 
-pub done_fault : (sheet : List ℕ) (before now : List Line) (bench : Bench) (place number : ℕ) (rest : List ℕ) (f : SheetFault) → Done sheet before now bench place number rest → 0 < length rest → ((b : Book) → Keeps bench b → Tells sheet_refusal (number + 1) (verdict b (parsed_head rest)) (Err f)) → Follows sheet before (Some (record { place = place; fault = f })) now
-done_fault sheet before now bench place number rest f d some refused =
-    let (fewer, most-is, next) = one_more d.most d.book (number + 1) place rest some d.enough in
-    let told = refused d.book d.keeps in
-    follows_at sheet before now d.so_far _ (Some (shifted place (sheet_refusal f))) d.lines_are
-    (d.outcome_is ∙ ap (prefixed d.so_far) (next ∙ followed_fault (number + 1) place (verdict d.book (parsed_head rest)) f _ told)) refl
+pub done_fault : (sheet : List ℕ) (before now : List Line) (bench : Bench) (number : ℕ) (rest : List ℕ) (f : SheetFault) → Done sheet before now bench number rest → 0 < length rest → ((b : Book) → Keeps bench b → Tells sheet_refusal (number + 1) (verdict b (parsed_head rest)) (Err f)) → Follows sheet before (Some (record { place = length sheet - length rest; fault = f })) now
+done_fault sheet before now bench number rest f d some refuses-it =
+    let (fewer, most-is, next) = one_more d.most d.book (number + 1) d.place rest some d.enough in
+    let told = refuses-it d.book d.keeps in
+    let place_is = d.place_is in
+    let there : length sheet - length rest ≡ d.place = omega arith in
+    follows_at sheet before now d.so_far _ (Some (shifted d.place (sheet_refusal f))) d.lines_are
+    (d.outcome_is ∙ ap (prefixed d.so_far) (next ∙ followed_fault (number + 1) d.place (verdict d.book (parsed_head rest)) f _ told))
+    (ap (λ p. Some (shifted p (sheet_refusal f))) there)

@@ -1,5 +1,5 @@
 -- What the steps of a run answer.
-use Rattle.std.specs.Prelude.{◌≡◌, ℕ, ◌+◌, ◌<◌, ◌≤◌, true, List, [], ◌++◌, length, Some, None, Ok, Err, Option, Result, slice_index_or}
+use Rattle.std.specs.Prelude.{◌≡◌, ℕ, ◌<◌, true, List, [], ◌++◌, length, drop, Some, None, Ok, Err, Option, Result, slice_index_or}
 use Rattle.std.specs.Borrow.{Bor}
 use Rattle.formats.specs.declared.fault.Fault.{Fault}
 use Rattle.formats.specs.declared.fault.Fault.TheVariants.{NoSuchFormat, CodeTooLarge, ValueNotRepresentable, ScaleOutOfRange, RegisterFull, NotWholeCodes}
@@ -61,28 +61,26 @@ abbrev pub Placed : ℕ → Result Unit Fault → Result (Option Line) RecordFau
 Placed codes (Ok done) r = r ≡ Ok None
 Placed codes (Err f) r = r ≡ Err (Arithmetic (offset_of codes f) f)
 
--- the kind and the body of the record at the head, or why none stands there
-pub record WholeHead (rest : List ℕ) (kind : Kind) (bytes : List ℕ) : Type 0 where
+-- the kind and the body of the record at the head and what is left after it, or why none stands there
+pub record WholeHead (rest : List ℕ) (kind : Kind) (bytes left : List ℕ) : Type 0 where
   pub whole : is_whole rest ≡ true
   pub kind_is : kind_of (kind_number rest) ≡ Some kind
   pub body_is : bytes ≡ body rest
-  pub long : 4 + length bytes ≡ record_bytes rest
-  pub within : 4 + length bytes ≤ length rest
+  pub left_is : left ≡ drop (record_bytes rest) rest
 
-abbrev pub Heads : List ℕ → Result (Kind × Bor (List ℕ)) SheetFault → Type 0
-Heads rest (Ok (kind, bytes)) = WholeHead rest kind bytes.now
+abbrev pub Heads : List ℕ → Result (Kind × Bor (List ℕ) × Bor (List ℕ)) SheetFault → Type 0
+Heads rest (Ok (kind, bytes, left)) = WholeHead rest kind bytes.now left.now
 Heads rest (Err f) = parsed_head rest ≡ refused (sheet_refusal f)
 
 -- the record at the head was performed
-pub record Stepped (n : ℕ) (rest : List ℕ) (b : Book) (told : Option Line) (bytes : ℕ) (new : Bench) : Type 0 where
+pub record Stepped (n : ℕ) (rest : List ℕ) (b : Book) (told : Option Line) (left : List ℕ) (new : Bench) : Type 0 where
+  pub whole : is_whole rest ≡ true
   pub tells : Tells sheet_refusal n (verdict b (parsed_head rest)) (Ok told)
   pub keeps : Keeps new (lists_after b (parsed_head rest))
-  pub bytes_are : bytes ≡ record_bytes rest
-  pub some : 4 ≤ bytes
-  pub within : bytes ≤ length rest
+  pub left_is : left ≡ drop (record_bytes rest) rest
 
-abbrev pub Steps : ℕ → List ℕ → Bench → Result (Option Line × ℕ) SheetFault → Bench → Type 0
-Steps n rest old (Ok (told, bytes)) new = (b : Book) → Keeps old b → Stepped n rest b told bytes new
+abbrev pub Steps : ℕ → List ℕ → Bench → Result (Option Line × Bor (List ℕ)) SheetFault → Bench → Type 0
+Steps n rest old (Ok (told, left)) new = (b : Book) → Keeps old b → Stepped n rest b told left.now new
 Steps n rest old (Err f) new = (b : Book) → Keeps old b → Tells sheet_refusal n (verdict b (parsed_head rest)) (Err f)
 
 -- the lines and the fault of an outcome

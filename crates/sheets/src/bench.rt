@@ -2,7 +2,7 @@
 ghost use Rattle.std.specs.Prelude.{◌≡◌, ℕ, ◌+◌, ◌<◌, ◌≤◌, []};
 ghost use Rattle.formats.specs.AnyFormat.{meaning_of};
 ghost use Rattle.formats.specs.Refusals.{number_of};
-ghost use Rattle.records.specs.Bodies.{signed_byte, clear_fields, add_fields, dot_fields, join_fields, read_fields};
+ghost use Rattle.records.specs.Bodies.{clear_fields, add_fields, dot_fields, join_fields, read_fields};
 ghost use Rattle.records.specs.Fields.{fields_of};
 ghost use Rattle.registers.specs.Calls.{Bounded, Answers};
 ghost use Rattle.registers.specs.Histories.{Book};
@@ -12,11 +12,12 @@ ghost use Rattle.sheets.specs.Steps.{AllBounded, Keeps, Performs, Placed};
 use crate::line::Line;
 use formats::any::AnyFormat;
 use formats::fault::Fault;
-use formats::format::Format;
 use records::fault::RecordFault;
-use records::fields::{format_at, mode_at, one_code, register_at, rule_at};
+use records::fields::{format_at, numbered_at, one_code, register_at};
 use records::record::Record;
 use registers::register::Register;
+use rounding::answers::Saturation;
+use rounding::rules::AnyRule;
 
 #[derive(Clone, Copy)]
 pub struct Bench {
@@ -99,7 +100,8 @@ impl Bench {
         let x_format = format_at(5, x_format)?;
         let y_format = format_at(6, y_format)?;
         let register = &mut self.registers[register];
-        placed(8, dot(register, x_format, y_format, signed(scale), pairs))
+        let scale = scale.cast_signed();
+        placed(8, dot(register, x_format, y_format, scale, pairs))
     }
 
     fn join(&mut self, register: u8, other: u8) -> Result<Option<Line>, RecordFault>
@@ -124,8 +126,8 @@ impl Bench {
     {
         let index = register_at(4, register)?;
         let format = format_at(5, format)?;
-        let rule = rule_at(6, rule)?;
-        let mode = mode_at(7, mode)?;
+        let rule: AnyRule = numbered_at(6, rule)?;
+        let mode: Saturation = numbered_at(7, mode)?;
         let ((code, mark), count) = self.registers[index].read(&format, &rule, mode);
         Ok(Some(Line {
             record: number,
@@ -143,17 +145,14 @@ fn placed(codes: usize, answer: Result<(), Fault>) -> Result<Option<Line>, Recor
     requires { codes ≤ 8 }
     ensures { Placed codes answer result }
 {
-    match answer {
-        Ok(()) => Ok(None),
-        Err(fault) => {
-            let offset = match fault {
-                Fault::ScaleOutOfRange => 7,
-                Fault::RegisterFull => 0,
-                _ => codes,
-            };
-            Err(RecordFault::Arithmetic(offset, fault))
-        }
-    }
+    answer.map(|()| None).map_err(|fault| {
+        let offset = match fault {
+            Fault::ScaleOutOfRange => 7,
+            Fault::RegisterFull => 0,
+            _ => codes,
+        };
+        RecordFault::Arithmetic(offset, fault)
+    })
 }
 
 // The products of a run. The formats are told apart before the loop over the pairs, and not in it.
@@ -168,36 +167,10 @@ fn dot(
     ensures bounded { Bounded register.new }
     ensures answers { Answers (dot_offer (meaning_of x_format) (meaning_of y_format) scale pairs.now) register.old result register.new }
 {
-    match x_format {
-        AnyFormat::OfP3109(x) => dot_with(register, &x, y_format, scale, pairs),
-        AnyFormat::OfBinary16(x) => dot_with(register, &x, y_format, scale, pairs),
-    }
-}
-
-fn dot_with<F: Format>(
-    register: &mut Register,
-    x_format: &F,
-    y_format: AnyFormat,
-    scale: i8,
-    pairs: &[u8],
-) -> Result<(), Fault>
-    requires { Bounded register.old }
-    ensures bounded { Bounded register.new }
-    ensures answers { Answers (dot_offer (F.Format.meaning x_format.now) (meaning_of y_format) scale pairs.now) register.old result register.new }
-{
-    match y_format {
-        AnyFormat::OfP3109(y) => register.dot(x_format, &y, scale, pairs),
-        AnyFormat::OfBinary16(y) => register.dot(x_format, &y, scale, pairs),
-    }
-}
-
-// A byte as two's complement.
-fn signed(byte: u8) -> i8
-    ensures { result ≡ signed_byte byte }
-{
-    if byte < 128 {
-        byte as i8
-    } else {
-        (i16::from(byte) - 256) as i8
+    match (x_format, y_format) {
+        (AnyFormat::OfP3109(x), AnyFormat::OfP3109(y)) => register.dot(&x, &y, scale, pairs),
+        (AnyFormat::OfP3109(x), AnyFormat::OfBinary16(y)) => register.dot(&x, &y, scale, pairs),
+        (AnyFormat::OfBinary16(x), AnyFormat::OfP3109(y)) => register.dot(&x, &y, scale, pairs),
+        (AnyFormat::OfBinary16(x), AnyFormat::OfBinary16(y)) => register.dot(&x, &y, scale, pairs),
     }
 }

@@ -1,9 +1,10 @@
 // Why a sheet ends before its last record.
 ghost use Rattle.std.specs.Prelude.{◌≡◌};
 ghost use Rattle.records.specs.declared.fault.RecordFault.{RecordFault};
-ghost use Rattle.sheets.specs.declared.fault.SheetFault.TheVariants.{InRecord};
+ghost use Rattle.sheets.specs.declared.fault.SheetFault.TheVariants as faults;
 
 use records::fault::RecordFault;
+use records::kind;
 
 #[derive(Clone, Copy, PartialEq, Eq)]
 pub enum SheetFault {
@@ -18,10 +19,18 @@ pub enum SheetFault {
 }
 
 impl From<RecordFault> for SheetFault {
-    ghost from_gives = { λ f r. r ≡ InRecord f };
+    ghost from_gives = { λ f r. r ≡ faults.InRecord f };
 
     fn from(fault: RecordFault) -> SheetFault {
         SheetFault::InRecord(fault)
+    }
+}
+
+impl From<kind::NoSuchKind> for SheetFault {
+    ghost from_gives = { λ n r. r ≡ faults.NoSuchKind };
+
+    fn from(_: kind::NoSuchKind) -> SheetFault {
+        SheetFault::NoSuchKind
     }
 }
 

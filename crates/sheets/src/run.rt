@@ -40,48 +40,52 @@ fn follow(sheet: &[u8], lines: &mut Vec<Line>) -> Result<Option<Stop>, AllocErro
 {
     let mut bench = Bench::new();
     let mut rest = sheet;
-    let mut place = 0;
     let mut number = 0;
     while !rest.is_empty() {
         number += 1;
         match step(&mut bench, number, rest) {
-            Ok((line, bytes)) => {
+            Ok((line, left)) => {
                 if let Some(line) = line {
                     lines.push(line)?;
                 }
-                rest = &rest[bytes..];
-                place += bytes;
+                rest = left;
             }
-            Err(fault) => return Ok(Some(Stop { place, fault })),
+            Err(fault) => {
+                let place = sheet.len() - rest.len();
+                return Ok(Some(Stop { place, fault }));
+            }
         }
     }
     Ok(None)
 }
 
-// Performs the record at the head of what is left, and answers its line, if it has one, and how many
-// bytes it takes.
-fn step(bench: &mut Bench, number: u32, rest: &[u8]) -> Result<(Option<Line>, usize), SheetFault>
+// Performs the record at the head of what is left, and answers its line, if it has one, and what is
+// left after it.
+fn step<'a>(
+    bench: &mut Bench,
+    number: u32,
+    rest: &'a [u8],
+) -> Result<(Option<Line>, &'a [u8]), SheetFault>
     requires { AllBounded bench.old }
     ensures { Steps number rest.now bench.old result bench.new }
 {
-    let (kind, body) = head(rest)?;
+    let (kind, body, left) = head(rest)?;
     let record = split(kind, body)?;
     let line = bench.perform(number, &record)?;
-    Ok((line, 4 + body.len()))
+    Ok((line, left))
 }
 
-// The kind and the body of the record at the head of what is left.
-fn head(rest: &[u8]) -> Result<(Kind, &[u8]), SheetFault>
+// The kind and the body of the record at the head of what is left, and what is left after it.
+fn head(rest: &[u8]) -> Result<(Kind, &[u8], &[u8]), SheetFault>
     ensures { Heads rest.now result }
 {
     let [l0, l1, k0, k1, after @ ..] = rest else {
         return Err(SheetFault::NotARecord);
     };
-    let length = usize::from(*l0) + 256 * usize::from(*l1);
-    if length < 2 || length - 2 > after.len() {
-        return Err(SheetFault::NotARecord);
-    }
-    let number = u16::from(*k0) + 256 * u16::from(*k1);
-    let kind = Kind::from_number(number).ok_or(SheetFault::NoSuchKind)?;
-    Ok((kind, &after[..length - 2]))
+    let (body, left) = usize::from(u16::from_le_bytes([*l0, *l1]))
+        .checked_sub(2)
+        .and_then(|length| after.split_at_checked(length))
+        .ok_or(SheetFault::NotARecord)?;
+    let kind = Kind::try_from(u16::from_le_bytes([*k0, *k1]))?;
+    Ok((kind, body, left))
 }

@@ -1,7 +1,7 @@
 // Prints what every code of the named formats reads as.
 #![tactic(auto)]
 
-use anyhow::anyhow;
+use anyhow::{Context, anyhow};
 use formats::any::AnyFormat;
 use listing::tables::{table, title};
 use names::from_name;
@@ -24,9 +24,9 @@ fn run(rt: &HostRuntime) -> anyhow::Result<()> {
     let mut out = BufWriter::new(rt.alloc(), rt.stdout())?;
     let mut codes = 0usize;
     for format in formats.iter() {
-        let Ok(lines) = table(rt.alloc(), format) else {
-            return Err(anyhow!("no memory is left for the table"));
-        };
+        let lines = table(rt.alloc(), format).map_err(|_| anyhow!(
+            "no memory is left for the table"
+        ))?;
         writeln!(out, "{}", title(rt.alloc(), format)?)?;
         for line in lines.iter() {
             writeln!(out, "{line}")?;
@@ -43,14 +43,14 @@ fn run(rt: &HostRuntime) -> anyhow::Result<()> {
 fn chosen(rt: &HostRuntime) -> anyhow::Result<Vec<AnyFormat>> {
     let mut formats = Vec::new(rt.alloc());
     for argument in env::args(rt)?.skip(1) {
-        let Some(format) = from_name(argument.as_str()) else {
-            return Err(anyhow!(format!(in rt.alloc(); "no format is named {argument}")?));
-        };
+        let format = from_name(argument.as_str()).context(format_args!(
+            "no format is named {argument}"
+        ))?;
         formats.push(format)?;
     }
     if formats.is_empty() {
         for byte in 1..=u8::MAX {
-            if let Ok(format) = AnyFormat::from_byte(byte) {
+            if let Ok(format) = AnyFormat::try_from(byte) {
                 formats.push(format)?;
             }
         }

@@ -3,8 +3,8 @@ use Rattle.std.proofs.Common.{◌≡◌, ℕ, ◌+◌, ◌≤◌, T, ℤ, pos, n
 use lib.Signed.{non_neg}
 use Rattle.std.proofs.lemmas.Int.{ints}
 use Rattle.formats.specs.declared.reading.Dyadic.{Dyadic}
-use Rattle.terms.specs.Offers.{ScaleFits}
-use Rattle.terms.specs.Readings.{SmallValue}
+use Rattle.terms.specs.Scales.{ScaleFits}
+use Rattle.terms.specs.Smalls.{SmallValue}
 
 -- a number kept in 16 bits and read back
 abbrev held : ℤ → ℤ

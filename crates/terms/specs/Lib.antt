@@ -1,3 +1,5 @@
 pub mod Terms
+pub mod Scales
+pub mod Smalls
 pub mod Readings
 pub mod Offers

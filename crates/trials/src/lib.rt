@@ -28,17 +28,18 @@ mod tests {
 
     #[test]
     fn values_have_their_codes(rt: HostRuntime) -> Result<(), Fail> {
-        for (byte, negative, significand, exponent, code) in CODES.iter().copied() {
+        for (byte, negative, significand, exponent, code) in CODES {
             let value = Dyadic {
                 negative,
                 significand,
                 exponent,
             };
-            let Ok(format) = AnyFormat::from_byte(byte) else {
+            let Ok(format) = AnyFormat::try_from(byte) else {
                 return Err(Fail::new("no such format"));
             };
-            assert!(rt;
-                format.encode(Reading::Finite(value)) == code.ok_or(Fault::ValueNotRepresentable)
+            assert_eq!(rt;
+                format.encode(Reading::Finite(value)),
+                code.ok_or(Fault::ValueNotRepresentable)
             );
         }
         Ok(())
@@ -53,9 +54,7 @@ mod tests {
             "binary16 ",
             "binary",
             "",
-        ]
-        .iter()
-        {
+        ] {
             assert!(rt; from_name(name).is_none());
         }
     }
@@ -64,11 +63,11 @@ mod tests {
     #[test]
     fn codes_read_back(rt: HostRuntime) {
         for byte in 0..=u8::MAX {
-            if let Ok(format) = AnyFormat::from_byte(byte) {
+            if let Ok(format) = AnyFormat::try_from(byte) {
                 for code in 0..=u16::MAX {
                     if let Ok(reading) = format.decode(code) {
                         let back = format.encode(reading).unwrap_or(0);
-                        assert!(rt; format.decode(back) == Ok(reading));
+                        assert_eq!(rt; format.decode(back), Ok(reading));
                         assert!(rt; byte == 0 || back == code);
                     }
                 }
@@ -89,14 +88,12 @@ mod tests {
 
     #[test]
     fn lines_of_binary16(rt: HostRuntime) -> Result<(), Fail> {
-        let Ok(format) = AnyFormat::from_byte(0) else {
+        let Ok(format) = AnyFormat::try_from(0) else {
             return Err(Fail::new("no such format"));
         };
-        for (code, line) in LINES.iter() {
-            let Ok(text) = row(rt.alloc(), &format, *code) else {
-                return Err(Fail::new("no line"));
-            };
-            assert!(rt; text.as_str() == *line);
+        for (code, line) in LINES {
+            let text = row(rt.alloc(), &format, code)?;
+            assert_eq!(rt; text.as_str(), line);
         }
         Ok(())
     }

@@ -1,27 +1,28 @@
-use Rattle.std.proofs.Common.{◌<◌, length, arith}
+use Rattle.std.proofs.Common.{◌<◌, get_or, length, arith}
 use Rattle.std.proofs.ByRecursion.{All-get_or}
 use Rattle.sums.proofs.SizeBound.{sum_size}
 use Rattle.pace.specs.Pace.{Within}
 use Rattle.pace.proofs.TermLaws.{within_zero}
 use Rattle.pace.proofs.joined.Goals as goal
 
+pub loop-sum-init : goal.loop-sum-init
+loop-sum-init c = within_zero c.zero-all.result c.zero-all.ensures
+
 pub add_sum-requires : goal.add_sum-requires
 add_sum-requires c =
-    let i = c.loop-i.i in
+    let i = c.loop-sum.sum-index in
     let sums = c.args.sums.now in
-    let lt : i < length sums = omega (arith, c.told-sums, c.loop-i-test.true) in
-    let h = All-get_or (Within 100000) sums i _ lt c.requires in
-    record { sound = (c.loop-i.invariant.0, h.0); fits = omega (arith, c.loop-i.invariant.1, h.1, c.loop-i-test.true) }
+    let lt : i < length sums = omega (arith, c.told-sums, c.loop-sum-test.true) in
+    let h : Within 100000 (get_or sums i c.sum-item.result) = All-get_or (Within 100000) sums i c.sum-item.result lt c.requires in
+    let most = c.loop-sum.invariant in
+    omega (arith, c.loop-sum-test.true)
 
-pub loop-i-init : goal.loop-i-init
-loop-i-init c = within_zero c.zero-all.result c.zero-all.ensures.value c.zero-all.ensures.sound
-
-pub loop-i-preserved : goal.loop-i-preserved
-loop-i-preserved c =
-    let i = c.loop-i.i in
+pub loop-sum-preserved : goal.loop-sum-preserved
+loop-sum-preserved c =
+    let i = c.loop-sum.sum-index in
     let sums = c.args.sums.now in
-    let step = c.add_sum.ensures in
-    let lt : i < length sums = omega (arith, c.told-sums, c.loop-i-test.true) in
-    let h = All-get_or (Within 100000) sums i _ lt c.requires in
-    let more = sum_size c.loop-i.all _ c.add_sum.new.self c.loop-i.invariant.0 h.0 step.sound step.value in
-    (step.sound, omega (arith, c.loop-i.invariant.1, h.1, more))
+    let lt : i < length sums = omega (arith, c.told-sums, c.loop-sum-test.true) in
+    let h : Within 100000 (get_or sums i c.sum-item.result) = All-get_or (Within 100000) sums i c.sum-item.result lt c.requires in
+    let most = c.loop-sum.invariant in
+    let more = sum_size c.loop-sum.all (get_or sums i c.sum-item.result) c.add_sum.new.self c.add_sum.ensures in
+    omega arith

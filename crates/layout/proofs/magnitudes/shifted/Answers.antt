@@ -1,7 +1,11 @@
-use Rattle.std.proofs.Common.{◌≡◌, ℕ, ◌-◌, ◌*◌, ◌%◌, ◌^◌, ◌<◌, refl, arith, pow_pos}
+use Rattle.std.proofs.Common.{◌-◌, ◌≤◌, ◌∙◌, arith, rules}
 use Rattle.std.proofs.lemmas.Nat.{one_shl}
 use Rattle.layout.proofs.CodeLaws.{shift_room, shift_left, shift_odd, shift_past, shift_divided}
 use Rattle.layout.proofs.magnitudes.shifted.Goals as goal
+
+pub overflow_cast-result : goal.overflow_cast-result
+overflow_cast-result c =
+    let room = shift_room c.args.significand c.args.from c.args.to c.requires.some c.requires.fits in search rules
 
 pub overflow_shl-result : goal.overflow_shl-result
 overflow_shl-result c = shift_room c.args.significand c.args.from c.args.to c.requires.some c.requires.fits
@@ -9,21 +13,16 @@ overflow_shl-result c = shift_room c.args.significand c.args.from c.args.to c.re
 pub returns-then-to-from : goal.returns-then-to-from
 returns-then-to-from c = shift_left c.args.significand c.args.from c.args.to c.if-to-from.true c.requires.some c.requires.fits
 
-pub returns-then-places-ge16 : goal.returns-then-places-ge16
-returns-then-places-ge16 c t e =
-    shift_past c.args.significand t (c.args.to - c.args.from) c.requires.some (omega (arith, c.ranges.significand.fits)) c.if-places-ge16.true
-    (shift_odd c.args.significand c.args.from c.args.to t c.if-to-from.false e)
-
--- the unit as the code has it
-unit : (k : ℕ) → k < 16 → 1 * 2 ^ k % 2 ^ 16 ≡ 2 ^ k
-unit k h = one_shl k 16 h
-
-pub divided-requires : goal.divided-requires
-divided-requires c =
-    let k = c.args.to - c.args.from in omega (arith, unit k c.if-places-ge16.false, pow_pos k)
+pub returns-in_err-unit : goal.returns-in_err-unit
+returns-in_err-unit c =
+    let large : 16 ≤ c.args.to - c.args.from = omega (arith, c.in_err-unit.ensures) in
+    rw c.from_residual.ensures
+    (λ t e. shift_past c.args.significand t (c.args.to - c.args.from) c.requires.some (omega (arith, c.ranges.significand.fits)) large
+    (shift_odd c.args.significand c.args.from c.args.to t c.if-to-from.false e))
 
 pub returns : goal.returns
 returns c =
-    let k = c.args.to - c.args.from in
-    shift_divided c.args.significand k c.args.from c.args.to c.divided.result c.if-to-from.false refl
-    (rw (unit k c.if-places-ge16.false) at c.divided.ensures)
+    let unit = c.in_ok-unit.ensures in
+    rw c.then_some.ensures
+    (shift_divided c.args.significand c.args.from c.args.to c.in_ok-unit.unit c.is_multiple_of-whole.result c.if-to-from.false
+    (unit.1 ∙ one_shl (c.args.to - c.args.from) 16 unit.0) c.is_multiple_of-whole.ensures)

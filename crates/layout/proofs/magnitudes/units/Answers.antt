@@ -4,9 +4,6 @@ use Rattle.layout.specs.Codes.{fine_size}
 use Rattle.layout.proofs.CodeLaws.{biased_is, in_shift}
 use Rattle.layout.proofs.magnitudes.units.Goals as goal
 
-pub overflow_shl-result : goal.overflow_shl-result
-overflow_shl-result c = search (rules, ints)
-
 pub returns : goal.returns
 returns c =
     let z = c.args.size in

@@ -1,10 +1,9 @@
-use Rattle.std.proofs.Common.{vec_items}
-use Rattle.reports.proofs.TextLaws.{joined, written}
+use Rattle.std.proofs.Common.{arith}
+use Rattle.std.proofs.lemmas.Grind.{common_steps}
+use Rattle.reports.proofs.TextLaws.{hexadecimal_is}
 use Rattle.reports.proofs.text.write_hexadecimal.Goals as goal
 
 pub returns : goal.returns
 returns c =
-    joined (vec_items c.args.text.now) _ _ (written (vec_items c.args.text.now) c.in_ok-push.ensures.items c.digit.ensures)
-    (joined (vec_items c.push.new.self) _ _ (written (vec_items c.push.new.self) c.in_ok-push-2.ensures.items c.digit-2.ensures)
-    (joined (vec_items c.push-2.new.self) _ _ (written (vec_items c.push-2.new.self) c.in_ok-push-3.ensures.items c.digit-3.ensures)
-    (written (vec_items c.push-3.new.self) c.in_ok-push-4.ensures.items c.digit-4.ensures)))
+    let e = hexadecimal_is c.args.code (omega arith) in
+    grind (arith, common_steps, e)

@@ -1,17 +1,32 @@
-use Rattle.std.proofs.Common.{ℤ, sym, subst, w8}
+use Rattle.std.proofs.Common.{ap, w8}
 use Rattle.std.proofs.lemmas.Int.{to_z-of_z}
 use Rattle.formats.specs.AnyFormat.{meaning_of}
-use Rattle.formats.specs.declared.any.AnyFormat.{AnyFormat}
-use Rattle.formats.specs.declared.any.AnyFormat.TheVariants.{OfP3109}
-use Rattle.registers.specs.Calls.{Answers}
-use Rattle.registers.specs.Runs.{dot_offer}
+use Rattle.sheets.proofs.BenchLaws.{dot_answers}
 use Rattle.sheets.proofs.bench.dot.Goals as goal
 
-pub returns-in-OfP3109 : goal.returns-in-OfP3109
-returns-in-OfP3109 c =
-    let answers = λ (f : AnyFormat) (scale : ℤ). Answers (dot_offer (meaning_of f) (meaning_of c.args.y_format) scale c.args.pairs.now) c.args.register.now c.dot_with.result c.dot_with.new.register in
+pub returns-in-OfP3109-OfP3109 : goal.returns-in-OfP3109-OfP3109
+returns-in-OfP3109-OfP3109 c =
+    let a = c.dot.ensures in
     record {
-      bounded = c.dot_with.ensures.bounded;
-      answers = subst (λ f. answers f c.args.scale) (sym c.in-OfP3109.is)
-          (subst (answers (OfP3109 c.in-OfP3109.x)) (to_z-of_z w8 c.args.scale c.ranges.scale) c.dot_with.ensures.answers);
+      bounded = a.bounded;
+      answers = dot_answers c.args.x_format c.args.y_format _ _ c.args.scale _ c.args.pairs.now c.args.register.now _ _ (ap meaning_of c.in-OfP3109-OfP3109.is-0) (ap meaning_of c.in-OfP3109-OfP3109.is-1)
+          (to_z-of_z w8 c.args.scale c.ranges.scale) a.answers;
+    }
+
+pub returns-in-OfP3109-OfBinary16 : goal.returns-in-OfP3109-OfBinary16
+returns-in-OfP3109-OfBinary16 c =
+    let a = c.dot-in-OfP3109-OfBinary16.ensures in
+    record {
+      bounded = a.bounded;
+      answers = dot_answers c.args.x_format c.args.y_format _ _ c.args.scale _ c.args.pairs.now c.args.register.now _ _ (ap meaning_of c.in-OfP3109-OfBinary16.is-0) (ap meaning_of c.in-OfP3109-OfBinary16.is-1)
+          (to_z-of_z w8 c.args.scale c.ranges.scale) a.answers;
+    }
+
+pub returns-in-OfBinary16-OfP3109 : goal.returns-in-OfBinary16-OfP3109
+returns-in-OfBinary16-OfP3109 c =
+    let a = c.dot-in-OfBinary16-OfP3109.ensures in
+    record {
+      bounded = a.bounded;
+      answers = dot_answers c.args.x_format c.args.y_format _ _ c.args.scale _ c.args.pairs.now c.args.register.now _ _ (ap meaning_of c.in-OfBinary16-OfP3109.is-0) (ap meaning_of c.in-OfBinary16-OfP3109.is-1)
+          (to_z-of_z w8 c.args.scale c.ranges.scale) a.answers;
     }

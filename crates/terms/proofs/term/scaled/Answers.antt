@@ -8,8 +8,8 @@ invariant_of-result c =
     record {
       short = omega arith;
       low = omega (arith, ints);
-      small = scaled_small _ _ _ _ c.from.ensures (omega (arith, ints)) c.requires.small;
+      small = scaled_small _ _ _ _ c.from.ensures (omega (arith, ints)) c.args.small.small.small;
     }
 
 pub returns : goal.returns
-returns c = scaled_signed c.args.value.negative c.args.value.significand _ _ _ c.from.ensures (omega (arith, ints))
+returns c = scaled_signed c.args.small.value.negative c.args.small.value.significand _ _ _ c.from.ensures (omega (arith, ints))

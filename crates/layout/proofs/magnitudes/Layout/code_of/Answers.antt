@@ -19,13 +19,13 @@ returns-then-size-eq0 c =
     rw (c.if-size-eq0.true, size_zero l.precision b (omega (arith, l.precise))) (omega arith) in
     (zero, one_code l.precision b (fine_size c.args.size) 0 l.precise zero)
 
-pub shifted-requires : goal.shifted-requires
-shifted-requires c =
+pub shifted-requires-clause-fits : goal.shifted-requires-clause-fits
+shifted-requires-clause-fits c =
     let l = c.args.self.now in
     let same = held c.args.size c.biased.result (search rules) c.biased.ensures.0 in
     let le : l.precision + c.place-place.result ≤ 16 + c.place-place.result = omega (arith, l.short) in
     let m : 2 ^ (l.precision + c.place-place.result) ≤ 2 ^ (16 + c.place-place.result) = pow_mono le in
-    record { some = omega (arith, c.if-size-eq0.false); fits = omega (arith, same, c.place-place.ensures.0.short) }
+    omega (arith, same, c.place-place.ensures.0.short)
 
 pub returns-in_err-significand : goal.returns-in_err-significand
 returns-in_err-significand c =
@@ -41,9 +41,9 @@ returns c =
     let l = c.args.self.now in
     let b = bottom l.least_exponent in
     let same = held c.args.size c.biased.result (search rules) c.biased.ensures.0 in
-    let steps : c.from-steps.result ≡ c.place-place.result - (b + 96) = omega (arith, ints, c.from-steps.ensures, c.biased-2.ensures.0, l.deep) in
+    let steps : c.place-place.result - c.biased-2.result ≡ c.place-place.result - (b + 96) = omega (arith, ints, c.biased-2.ensures.0, l.deep) in
     let t = c.in_ok-significand.significand in
-    let made : size_at l.precision b (c.from.result + c.from-steps.result * c.from-2.result) * 2 ^ 96 ≡ fine_size c.args.size =
+    let made : size_at l.precision b (c.from.result + (c.place-place.result - c.biased-2.result) * c.from-2.result) * 2 ^ 96 ≡ fine_size c.args.size =
     rw (c.from.ensures, c.from-2.ensures, c.hidden.ensures.0, steps)
     (packed l.precision b (fine_size c.args.size) c.place-place.result l.precise c.place-place.ensures.0 t (c.in_ok-significand.ensures ∙ same)) in
     (made, one_code l.precision b (fine_size c.args.size) _ l.precise made)

@@ -1,0 +1,4 @@
+use Rattle.formats.proofs.p3109.P3109Format.decode.Goals as goal
+
+pub returns : goal.returns
+returns c = c.decode.ensures _ c.coding.ensures
