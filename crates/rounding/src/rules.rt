@@ -6,13 +6,14 @@ ghost use Rattle.std.proofs.Common.{rules};
 use crate::answers::Remainder;
 use crate::rule::{NearestRule, RoundingRule};
 
+// Each its own struct, and no pair one struct with a const parameter: an alias of that is no value in
+// Rust, and `&TowardPositive` has to stay one.
 #[derive(Clone, Copy)]
 pub struct NearestTiesToEven;
 
 #[derive(Clone, Copy)]
 pub struct NearestTiesToAway;
 
-// Two structs and not one with a const parameter: an alias of that one would be no value in Rust.
 #[derive(Clone, Copy)]
 pub struct TowardPositive;
 
@@ -144,7 +145,7 @@ impl TryFrom<u8> for AnyRule {
     }
 }
 
-// Two matches: one that hands out the rule as a `dyn` value is not allowed here.
+// Two matches: one function that hands out the rule as a `dyn` value is not allowed here.
 impl RoundingRule for AnyRule {
     ghost table = { table_of };
 

@@ -1,5 +1,5 @@
 -- Laws of numbers in words, cut at a bit.
-use Rattle.std.proofs.Common.{◌≡◌, ℕ, zero, suc, cond, Some, None, ◌+◌, ◌-◌, ◌*◌, ◌/◌, ◌%◌, ◌^◌, ◌<◌, ◌≤◌, Bool, not, eqb, List, [], ◌∷◌, get_or, take, drop, sym, refl, ap, ◌∙◌, mul_assoc, mul_comm, add-mul, zero-mul, arith, pow_mono}
+use Rattle.std.proofs.Common.{◌≡◌, ℕ, zero, suc, cond, Some, None, ◌+◌, ◌-◌, ◌*◌, ◌/◌, ◌%◌, ◌^◌, ◌<◌, ◌≤◌, not, eqb, List, [], ◌∷◌, get_or, take, drop, sym, refl, ap, ◌∙◌, mul_assoc, mul_comm, add-mul, zero-mul, arith, pow_mono}
 use lib.Count.{count_leading_zeros}
 use Rattle.layout.specs.Digits.{digits}
 use Rattle.layout.proofs.DigitLaws.{digits_unique}
@@ -117,10 +117,10 @@ rest_none ws place h lt none =
 pub half_and_rest : (n e : ℕ) → 0 < e → n % 2 ^ e ≡ n / 2 ^ (e - 1) % 2 * 2 ^ (e - 1) + n % 2 ^ (e - 1)
 half_and_rest n e some = let x : e ≡ 1 + (e - 1) = omega arith in ap (λ y. n % 2 ^ y) x ∙ mod-pow-add n 1 (e - 1)
 
-four_cases : (left unit bit rest : ℕ) (h r : Bool) → rest < unit → bit < 2 → left ≡ bit * unit + rest → h ≡ eqb bit 1 → r ≡ not (eqb rest 0) → cond (eqb left 0) None (Some (remainder_of left unit)) ≡ cond h (Some (cond r AboveHalf Half)) (cond r (Some BelowHalf) None)
-four_cases left unit zero rest h r short two is hh rr = grind (arith, nat_tests)
-four_cases left unit (suc zero) rest h r short two is hh rr = grind (arith, nat_tests)
-four_cases left unit (suc (suc bit)) rest h r short two is hh rr = absurd (omega arith)
+four_cases : (left unit bit rest : ℕ) → rest < unit → bit < 2 → left ≡ bit * unit + rest → cond (eqb left 0) None (Some (remainder_of left unit)) ≡ cond (eqb bit 1) (Some (cond (eqb rest 0) Half AboveHalf)) (cond (eqb rest 0) None (Some BelowHalf))
+four_cases left unit zero rest short two is = grind (arith, nat_tests)
+four_cases left unit (suc zero) rest short two is = grind (arith, nat_tests)
+four_cases left unit (suc (suc bit)) rest short two is = absurd (omega arith)
 
-pub left_is : (n e : ℕ) (h r : Bool) → 0 < e → h ≡ eqb (n / 2 ^ (e - 1) % 2) 1 → r ≡ not (eqb (n % 2 ^ (e - 1)) 0) → left_below n e ≡ cond h (Some (cond r AboveHalf Half)) (cond r (Some BelowHalf) None)
-left_is n e h r some = four_cases (n % 2 ^ e) (2 ^ (e - 1)) (n / 2 ^ (e - 1) % 2) (n % 2 ^ (e - 1)) h r (mod_below n (2 ^ (e - 1)) (pow_pos (e - 1))) (mod_below (n / 2 ^ (e - 1)) 2 (omega arith)) (half_and_rest n e some)
+pub left_is : (n e : ℕ) → 0 < e → left_below n e ≡ cond (eqb (n / 2 ^ (e - 1) % 2) 1) (Some (cond (eqb (n % 2 ^ (e - 1)) 0) Half AboveHalf)) (cond (eqb (n % 2 ^ (e - 1)) 0) None (Some BelowHalf))
+left_is n e some = four_cases (n % 2 ^ e) (2 ^ (e - 1)) (n / 2 ^ (e - 1) % 2) (n % 2 ^ (e - 1)) (mod_below n (2 ^ (e - 1)) (pow_pos (e - 1))) (mod_below (n / 2 ^ (e - 1)) 2 (omega arith)) (half_and_rest n e some)

@@ -55,6 +55,7 @@ impl Magnitude {
     }
 
     // What is left below a bit.
+    #[tactic(auto, using(crate::proofs::CutLaws::left_is))]
     fn left_below(&self, place: u32) -> Option<Remainder>
         requires { (0 < place) × (place < 256) }
         ensures { result ≡ left_below (number self.now.words) place }
