@@ -167,10 +167,10 @@ fn dot(
     ensures bounded { Bounded register.new }
     ensures answers { Answers (dot_offer (meaning_of x_format) (meaning_of y_format) scale pairs.now) register.old result register.new }
 {
-    match (x_format, y_format) {
-        (AnyFormat::OfP3109(x), AnyFormat::OfP3109(y)) => register.dot(&x, &y, scale, pairs),
-        (AnyFormat::OfP3109(x), AnyFormat::OfBinary16(y)) => register.dot(&x, &y, scale, pairs),
-        (AnyFormat::OfBinary16(x), AnyFormat::OfP3109(y)) => register.dot(&x, &y, scale, pairs),
-        (AnyFormat::OfBinary16(x), AnyFormat::OfBinary16(y)) => register.dot(&x, &y, scale, pairs),
+    match (&x_format, &y_format) {
+        (AnyFormat::OfP3109(x), AnyFormat::OfP3109(y)) => register.dot(x, y, scale, pairs),
+        (AnyFormat::OfP3109(x), AnyFormat::OfBinary16(y)) => register.dot(x, y, scale, pairs),
+        (AnyFormat::OfBinary16(x), AnyFormat::OfP3109(y)) => register.dot(x, y, scale, pairs),
+        (AnyFormat::OfBinary16(x), AnyFormat::OfBinary16(y)) => register.dot(x, y, scale, pairs),
     }
 }
