@@ -33,7 +33,8 @@ impl Bench {
         }
     }
 
-    // Performs the n-th record of a sheet: its fields are checked as they stand.
+    // Performs the n-th record of a sheet: its fields are checked as they stand. They are the variants'
+    // own, and a struct for each kind's fields would only name them once more.
     pub(crate) fn perform(
         &mut self,
         number: u32,
