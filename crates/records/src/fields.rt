@@ -8,7 +8,8 @@ use formats::any::AnyFormat;
 use formats::fault::Fault;
 use formats::format::Format;
 
-// One of the registers 0 to 3; refused (10) at any other number.
+// One of the registers 0 to 3; refused (10) at any other number. The number is an index, and has no
+// type of its own for numbered_at.
 pub fn register_at(offset: usize, byte: u8) -> Result<usize, RecordFault>
     ensures { RegisterAt offset byte result }
 {

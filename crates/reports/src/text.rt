@@ -41,8 +41,8 @@ fn write_lines(text: &mut Vec<u8>, lines: &[Line]) -> Result<(), AllocError>
     Ok(())
 }
 
-// Written piece by piece: as a Display with write!, a sheet's record takes 583 instructions, and so
-// 441.
+// Written piece by piece: with write! in a Display, a record of readings.sheet takes 583 instructions
+// in place of 433.
 fn write_line(text: &mut Vec<u8>, line: &Line) -> Result<(), AllocError>
     ensures { OnOk result (text.new.items ≡ text.old.items ++ line_text line.now) }
 {
@@ -73,6 +73,7 @@ fn write_hexadecimal(text: &mut Vec<u8>, code: u16) -> Result<(), AllocError>
     text.extend_from_slice(&digits)
 }
 
+// The type is another crate's, so that a Display would take a type around it.
 fn mark_word(mark: Mark) -> &'static str
     ensures { result.now ≡ mark_word mark }
 {

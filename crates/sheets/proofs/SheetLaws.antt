@@ -7,7 +7,6 @@ use Rattle.records.specs.Bodies.{parsed}
 use Rattle.records.specs.Entries.{Parsed, refused}
 use Rattle.records.specs.Fields.{ByNumber}
 use Rattle.records.specs.Refusals.{Refusal, shifted, refusal_of}
-use Rattle.records.specs.declared.fault.RecordFault.{RecordFault}
 use Rattle.records.specs.declared.kind.Kind.{Kind}
 use Rattle.records.specs.declared.kind.Kind.TheVariants.{Clear, Add, Dot, Join, Read}
 use Rattle.registers.specs.Histories.{Book}
@@ -17,7 +16,7 @@ use Rattle.sheets.specs.Steps.{Keeps, Tells, Performs, WholeHead, Stepped, Follo
 use Rattle.sheets.specs.Verdicts.{Verdict, refuses, silent, tells, verdict, lists_after}
 use Rattle.sheets.specs.declared.bench.Bench.{Bench}
 use Rattle.sheets.specs.declared.fault.SheetFault.{SheetFault}
-use Rattle.sheets.specs.declared.fault.SheetFault.TheVariants.{NoSuchKind, InRecord}
+use Rattle.sheets.specs.declared.fault.SheetFault.TheVariants.{NoSuchKind}
 use Rattle.sheets.specs.declared.fault.Stop.{Stop}
 use Rattle.sheets.specs.declared.line.Line.{Line}
 
@@ -58,11 +57,6 @@ no_kind rest long n four is number other two short =
 pub head_parsed : (rest : List ℕ) (kind : Kind) (bytes left : List ℕ) → WholeHead rest kind bytes left → parsed_head rest ≡ parsed kind bytes
 head_parsed rest kind bytes left w = cond-true (is_whole rest) _ _ w.whole ∙ ap₂ of_kind w.kind_is (sym w.body_is)
 
-tells_fault : (n : ℕ) (v : Verdict) (f : RecordFault) → Tells refusal_of n v (Err f) → Tells sheet_refusal n v (Err (InRecord f))
-tells_fault n (refuses r) f e = e
-tells_fault n silent f none = none
-tells_fault n (tells r code mark count) f none = none
-
 tells_line : (n : ℕ) (v : Verdict) (told : Option Line) → Tells refusal_of n v (Ok told) → Tells sheet_refusal n v (Ok told)
 tells_line n (refuses r) told none = none
 tells_line n silent None done = done
@@ -70,11 +64,7 @@ tells_line n silent (Some l) none = none
 tells_line n (tells r code mark count) None none = none
 tells_line n (tells r code mark count) (Some l) e = e
 
--- a record at the head that was refused, and one that was performed
-pub step_refused : (n : ℕ) (rest : List ℕ) (p : Parsed) (old new : Bench) (f : RecordFault) → p ≡ parsed_head rest → Performs n p old (Err f) new → (b : Book) → Keeps old b → Tells sheet_refusal n (verdict b (parsed_head rest)) (Err (InRecord f))
-step_refused n rest p old new f is performs b keeps =
-    tells_fault n (verdict b (parsed_head rest)) f (subst (λ q. Tells refusal_of n (verdict b q) (Err f)) is (performs b keeps).0)
-
+-- a record at the head that was performed
 pub step_done : (n : ℕ) (rest bytes left : List ℕ) (kind : Kind) (p : Parsed) (old new : Bench) (told : Option Line) → WholeHead rest kind bytes left → p ≡ parsed kind bytes → Performs n p old (Ok told) new → (b : Book) → Keeps old b → Stepped n rest b told left new
 step_done n rest bytes left kind p old new told whole is performs b keeps =
     let same = is ∙ sym (head_parsed rest kind bytes left whole) in
@@ -141,20 +131,6 @@ pub record Done (sheet : List ℕ) (before now : List Line) (bench : Bench) (num
   pub numbered : 4 * number ≤ place
   pub lines_are : now ≡ before ++ so_far
   pub outcome_is : remaining (length sheet) (λ i. []) 1 0 sheet ≡ prefixed so_far (remaining most book (number + 1) place rest)
-
-pub done_none : (sheet : List ℕ) (before : List Line) (bench : Bench) → Keeps bench (λ i. []) → Done sheet before before bench 0 sheet
-done_none sheet before bench keeps = record {
-  book = λ i. [];
-  most = length sheet;
-  place = 0;
-  so_far = [];
-  enough = omega arith;
-  keeps = keeps;
-  place_is = omega arith;
-  numbered = omega arith;
-  lines_are = sym (append-nil before);
-  outcome_is = refl;
-}
 
 pub done_more : (sheet : List ℕ) (before now later : List Line) (old new : Bench) (number : ℕ) (rest left : List ℕ) (told : Option Line) → Done sheet before now old number rest → 0 < length rest → ((b : Book) → Keeps old b → Stepped (number + 1) rest b told left new) → later ≡ now ++ line_of told → Done sheet before later new (number + 1) left
 done_more sheet before now later old new number rest left told d some steps is =

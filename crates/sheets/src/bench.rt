@@ -33,7 +33,8 @@ impl Bench {
         }
     }
 
-    // Performs the n-th record of a sheet: its fields are checked as they stand.
+    // Performs the n-th record of a sheet: its fields are checked as they stand. They are the variants'
+    // own, and a struct for each kind's fields would only name them once more.
     pub(crate) fn perform(
         &mut self,
         number: u32,
@@ -159,10 +160,10 @@ fn dot(
 ) -> Result<(), Fault>
     ensures { Answers (dot_offer (meaning_of x_format) (meaning_of y_format) scale pairs.now) register.old result register.new }
 {
-    match (x_format, y_format) {
-        (AnyFormat::OfP3109(x), AnyFormat::OfP3109(y)) => register.dot(&x, &y, scale, pairs),
-        (AnyFormat::OfP3109(x), AnyFormat::OfBinary16(y)) => register.dot(&x, &y, scale, pairs),
-        (AnyFormat::OfBinary16(x), AnyFormat::OfP3109(y)) => register.dot(&x, &y, scale, pairs),
-        (AnyFormat::OfBinary16(x), AnyFormat::OfBinary16(y)) => register.dot(&x, &y, scale, pairs),
+    match (&x_format, &y_format) {
+        (AnyFormat::OfP3109(x), AnyFormat::OfP3109(y)) => register.dot(x, y, scale, pairs),
+        (AnyFormat::OfP3109(x), AnyFormat::OfBinary16(y)) => register.dot(x, y, scale, pairs),
+        (AnyFormat::OfBinary16(x), AnyFormat::OfP3109(y)) => register.dot(x, y, scale, pairs),
+        (AnyFormat::OfBinary16(x), AnyFormat::OfBinary16(y)) => register.dot(x, y, scale, pairs),
     }
 }

@@ -33,7 +33,8 @@ pub fn run(heap: Global, sheet: &[u8]) -> Result<Report, AllocError>
     Ok(Report { lines, fault })
 }
 
-// Adds the lines of a sheet's readings, and answers where it ended in a fault.
+// Adds the lines of a sheet's readings, and answers where it ended in a fault. An iterator over the
+// records would be no plainer: it would have to give each one's place too.
 fn follow(sheet: &[u8], lines: &mut Vec<Line>) -> Result<Option<Stop>, AllocError>
     requires { length sheet.now ≤ 65536 }
     ensures { IfOk result (λ fault. Follows sheet.now lines.old.items fault lines.new.items) }
