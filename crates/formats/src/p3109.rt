@@ -42,7 +42,7 @@ impl P3109 {
     fn least_exponent(&self) -> i8
         ensures { result ≡ least self.now.width self.now.precision }
     {
-        2 - (self.bias() + self.precision) as i8
+        2 - (self.bias() + self.precision).cast_signed()
     }
 
     // The sign bit alone is the code of NaN, and infinity's are the last codes of either sign.

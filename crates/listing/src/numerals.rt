@@ -1,6 +1,5 @@
 // Numbers as text.
 ghost use Rattle.std.specs.Prelude.{◌≡◌, ◌^◌, ◌<◌, ◌≤◌, Some};
-ghost use Rattle.listing.specs.Numerals.{Decimal};
 ghost use Rattle.listing.specs.Texts.{numeral_text, bits_text, places_after, number_after, units_text};
 
 use std::fmt;
@@ -79,13 +78,6 @@ impl fmt::Display for Units {
         let (number, places) = decimals((self.units % (1 << 32)) as u32);
         write!(f, "{sign}{whole}.{number:0places$}")
     }
-}
-
-#[tactic(auto, using(crate::proofs::NumeralLaws::units_decimal))]
-pub(crate) fn decimal(negative: bool, units: u64) -> Units
-    ensures { Decimal negative units (units_text result.negative result.units) }
-{
-    Units { negative, units }
 }
 
 // The decimal digits of fraction / 2^32 as a whole number, and how many there are: n / 2^p is

@@ -4,7 +4,7 @@ ghost use Rattle.formats.specs.AnyFormat.{meaning_of};
 ghost use Rattle.names.specs.Names.{name_of};
 ghost use Rattle.listing.specs.Tables.{Title, Complete, OnlyMemory};
 
-use crate::numerals::decimal;
+use crate::numerals::Units;
 use crate::rows::{Unlisted, row};
 use formats::any::AnyFormat;
 use formats::format::Format;
@@ -13,11 +13,15 @@ use std::alloc::{AllocError, Global};
 
 // The format's name with its width K, its precision P, its least exponent q and its largest finite
 // value M.
+#[tactic(auto, using(crate::proofs::NumeralLaws::units_decimal))]
 pub fn title(heap: Global, format: &AnyFormat) -> Result<String, AllocError>
     ensures { IfOk result (λ s. Title (name_of format.now) (meaning_of format.now) (string_bytes s)) }
 {
     let shape = format.shape();
-    let largest = decimal(false, shape.largest);
+    let largest = Units {
+        negative: false,
+        units: shape.largest,
+    };
     let name = name(heap, format)?;
     format!(in heap;
         "{name} K={} P={} q={} M={largest}",
@@ -39,7 +43,8 @@ fn code_count<F: Format>(format: &F) -> u32
     1 << format.shape().width
 }
 
-// The lines of the codes below `count`, which is how many there are.
+// The lines of the codes below `count`, which is how many there are. A `for` with `?` is no longer
+// than `try_collect`, and tells which error ends it.
 fn lines<F: Format>(heap: Global, format: &F, count: u32) -> Result<Vec<String>, Unlisted>
     requires { (count ≡ 2 ^ (F.Format.meaning format.now).width) × (count ≤ 65536) }
     ensures { MatchResult result (λ v. Complete string_bytes (F.Format.meaning format.now) v.items) OnlyMemory }

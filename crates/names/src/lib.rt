@@ -1,5 +1,4 @@
-// The names of the formats. `FromStr` and `Display` for `AnyFormat` would have to stand in `formats`,
-// which knows no text.
+// The names of the formats.
 #![tactic(auto)]
 
 ghost use Rattle.std.specs.Prelude.{◌≡◌, ℕ, ◌<◌, IfOk, string_bytes};
@@ -10,7 +9,8 @@ use formats::binary16::Binary16;
 use formats::p3109::P3109;
 use std::alloc::{AllocError, Global};
 
-// `binary16`, or as `binary8p4` for width 8 and precision 4.
+// `binary16`, or as `binary8p4` for width 8 and precision 4. No `FromStr` and no `Display`: an impl
+// for `AnyFormat` would stand in `formats`, which knows no text.
 pub fn from_name(name: &str) -> Option<AnyFormat>
     ensures { ByName name.now result }
 {

@@ -146,10 +146,6 @@ offer_performs n codes i offset (offers.refusal number place) old d new (Err f) 
 offer_performs n codes i offset (terms us) old d new a r b lt placing keeps answers placed =
     brings_performs n codes (length us) i (exact_sum us) old d new a r b us lt refl refl keeps answers placed
 
--- a dot's answer by formats that were told apart
-pub dot_answers : (f g : AnyFormat) (m n : Meaning) (scale told : ℤ) (run : List ℕ) (old : Register) (r : Result Unit Fault) (new : Register) → meaning_of f ≡ m → meaning_of g ≡ n → told ≡ scale → Answers (dot_offer m n told run) old r new → Answers (dot_offer (meaning_of f) (meaning_of g) scale run) old r new
-dot_answers f g m n scale told run old r new f-is g-is scale-is answers = rw (f-is, g-is, ← scale-is) answers
-
 -- a byte as two's complement
 pub signed_is : (b : ℕ) → b < 256 → to_z w8 b ≡ signed_byte b
 signed_is b lt = grind (arith, ints, nat_tests)

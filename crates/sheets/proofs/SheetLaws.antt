@@ -13,7 +13,7 @@ use Rattle.records.specs.declared.kind.Kind.TheVariants.{Clear, Add, Dot, Join, 
 use Rattle.registers.specs.Histories.{Book}
 use Rattle.sheets.specs.Faults.{sheet_refusal, ended}
 use Rattle.sheets.specs.Sheets.{record_length, kind_number, record_bytes, is_whole, body, kind_of, of_kind, parsed_head, Outcome, outcome, followed, remaining}
-use Rattle.sheets.specs.Steps.{Keeps, AllBounded, Tells, Performs, WholeHead, Stepped, Follows}
+use Rattle.sheets.specs.Steps.{Keeps, Tells, Performs, WholeHead, Stepped, Follows}
 use Rattle.sheets.specs.Verdicts.{Verdict, refuses, silent, tells, verdict, lists_after}
 use Rattle.sheets.specs.declared.bench.Bench.{Bench}
 use Rattle.sheets.specs.declared.fault.SheetFault.{SheetFault}
@@ -91,10 +91,6 @@ shorter n rest left b told new s =
     let (four, within) = whole_long rest s.whole in
     let long : length left ≡ length rest - record_bytes rest = ap length s.left_is ∙ length-drop (record_bytes rest) rest in
     omega arith
-
--- registers that keep lists have their bounds
-pub all_bounded : (bench : Bench) (b : Book) → Keeps bench b → AllBounded bench
-all_bounded bench b keeps = (keeps.four, λ i d lt. (keeps.each i d lt).bounded)
 
 -- an outcome after lines that were told before
 abbrev pub prefixed : List Line → Outcome → Outcome

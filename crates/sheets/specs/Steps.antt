@@ -8,7 +8,7 @@ use Rattle.records.specs.Refusals.{Refusal, refusal_of}
 use Rattle.records.specs.declared.fault.RecordFault.{RecordFault}
 use Rattle.records.specs.declared.fault.RecordFault.TheVariants.{Arithmetic}
 use Rattle.records.specs.declared.kind.Kind.{Kind}
-use Rattle.registers.specs.Calls.{Bounded, Has}
+use Rattle.registers.specs.Calls.{Has}
 use Rattle.registers.specs.Histories.{Book}
 use Rattle.registers.specs.declared.register.Register.{Register}
 use Rattle.sheets.specs.Faults.{sheet_refusal, ended}
@@ -23,10 +23,6 @@ use Rattle.sheets.specs.declared.line.Line.{Line}
 pub record Keeps (bench : Bench) (b : Book) : Type 0 where
   pub four : length bench.registers ≡ 4
   pub each : (i : ℕ) (d : Register) → i < 4 → Has (slice_index_or bench.registers i d) (b i)
-
--- each register has its bound
-abbrev pub AllBounded : Bench → Type 0
-AllBounded bench = (length bench.registers ≡ 4) × ((i : ℕ) (d : Register) → i < 4 → Bounded (slice_index_or bench.registers i d))
 
 -- the answer to the n-th record tells what the verdict says
 abbrev pub Tells : {F : Type 0} → (F → Refusal) → ℕ → Verdict → Result (Option Line) F → Type 0

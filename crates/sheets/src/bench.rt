@@ -4,10 +4,10 @@ ghost use Rattle.formats.specs.AnyFormat.{meaning_of};
 ghost use Rattle.formats.specs.Refusals.{number_of};
 ghost use Rattle.records.specs.Bodies.{clear_fields, add_fields, dot_fields, join_fields, read_fields};
 ghost use Rattle.records.specs.Fields.{fields_of};
-ghost use Rattle.registers.specs.Calls.{Bounded, Answers};
+ghost use Rattle.registers.specs.Calls.{Answers};
 ghost use Rattle.registers.specs.Histories.{Book};
 ghost use Rattle.registers.specs.Runs.{dot_offer};
-ghost use Rattle.sheets.specs.Steps.{AllBounded, Keeps, Performs, Placed};
+ghost use Rattle.sheets.specs.Steps.{Keeps, Performs, Placed};
 
 use crate::line::Line;
 use formats::any::AnyFormat;
@@ -39,7 +39,6 @@ impl Bench {
         number: u32,
         record: &Record,
     ) -> Result<Option<Line>, RecordFault>
-        requires { AllBounded self.old }
         ensures { Performs number (fields_of «record».now) self.old result self.new }
     {
         match *record {
@@ -67,7 +66,6 @@ impl Bench {
     }
 
     fn clear(&mut self, register: u8) -> Result<Option<Line>, RecordFault>
-        requires { AllBounded self.old }
         ensures { (n : ℕ) → Performs n (clear_fields register) self.old result self.new }
     {
         let register = register_at(4, register)?;
@@ -76,7 +74,6 @@ impl Bench {
     }
 
     fn add(&mut self, register: u8, format: u8, code: &[u8]) -> Result<Option<Line>, RecordFault>
-        requires { AllBounded self.old }
         ensures { (n : ℕ) → Performs n (add_fields register format code.now) self.old result self.new }
     {
         let register = register_at(4, register)?;
@@ -93,7 +90,6 @@ impl Bench {
         scale: u8,
         pairs: &[u8],
     ) -> Result<Option<Line>, RecordFault>
-        requires { AllBounded self.old }
         ensures { (n : ℕ) → Performs n (dot_fields register x_format y_format scale pairs.now) self.old result self.new }
     {
         let register = register_at(4, register)?;
@@ -105,7 +101,6 @@ impl Bench {
     }
 
     fn join(&mut self, register: u8, other: u8) -> Result<Option<Line>, RecordFault>
-        requires { AllBounded self.old }
         ensures { (n : ℕ) → Performs n (join_fields register other) self.old result self.new }
     {
         let register = register_at(4, register)?;
@@ -121,7 +116,6 @@ impl Bench {
         rule: u8,
         mode: u8,
     ) -> Result<Option<Line>, RecordFault>
-        requires { AllBounded self.old }
         ensures { Performs number (read_fields register format rule mode) self.old result self.new }
     {
         let index = register_at(4, register)?;
@@ -163,9 +157,7 @@ fn dot(
     scale: i8,
     pairs: &[u8],
 ) -> Result<(), Fault>
-    requires { Bounded register.old }
-    ensures bounded { Bounded register.new }
-    ensures answers { Answers (dot_offer (meaning_of x_format) (meaning_of y_format) scale pairs.now) register.old result register.new }
+    ensures { Answers (dot_offer (meaning_of x_format) (meaning_of y_format) scale pairs.now) register.old result register.new }
 {
     match (x_format, y_format) {
         (AnyFormat::OfP3109(x), AnyFormat::OfP3109(y)) => register.dot(&x, &y, scale, pairs),

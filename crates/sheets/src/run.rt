@@ -1,7 +1,7 @@
 // Running a sheet: record after record, to its end or to the first fault.
 ghost use Rattle.std.specs.Prelude.{◌≡◌, ℕ, ◌+◌, ◌*◌, ◌<◌, ◌≤◌, ◌++◌, length, IfOk};
 ghost use Rattle.sheets.specs.Sheets.{reported};
-ghost use Rattle.sheets.specs.Steps.{AllBounded, Heads, Steps, Follows, Reports};
+ghost use Rattle.sheets.specs.Steps.{Heads, Steps, Follows, Reports};
 
 use crate::bench::Bench;
 use crate::fault::{SheetFault, Stop};
@@ -66,7 +66,6 @@ fn step<'a>(
     number: u32,
     rest: &'a [u8],
 ) -> Result<(Option<Line>, &'a [u8]), SheetFault>
-    requires { AllBounded bench.old }
     ensures { Steps number rest.now bench.old result bench.new }
 {
     let (kind, body, left) = head(rest)?;

@@ -32,7 +32,7 @@ impl Sum {
     pub fn add_infinity(&mut self, negative: bool)
         ensures { value self.new ≡ plus (value self.old) (infinite negative) }
     {
-        *self = match self {
+        *self = match *self {
             Sum::NotANumber => Sum::NotANumber,
             Sum::PositiveInfinity if negative => Sum::NotANumber,
             Sum::NegativeInfinity if !negative => Sum::NotANumber,

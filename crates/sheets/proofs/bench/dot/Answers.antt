@@ -1,32 +1,12 @@
-use Rattle.std.proofs.Common.{ap, w8}
+use Rattle.std.proofs.Common.{w8}
 use Rattle.std.proofs.lemmas.Int.{to_z-of_z}
-use Rattle.formats.specs.AnyFormat.{meaning_of}
-use Rattle.sheets.proofs.BenchLaws.{dot_answers}
 use Rattle.sheets.proofs.bench.dot.Goals as goal
 
 pub returns-in-OfP3109-OfP3109 : goal.returns-in-OfP3109-OfP3109
-returns-in-OfP3109-OfP3109 c =
-    let a = c.dot.ensures in
-    record {
-      bounded = a.bounded;
-      answers = dot_answers c.args.x_format c.args.y_format _ _ c.args.scale _ c.args.pairs.now c.args.register.now _ _ (ap meaning_of c.in-OfP3109-OfP3109.is-0) (ap meaning_of c.in-OfP3109-OfP3109.is-1)
-          (to_z-of_z w8 c.args.scale c.ranges.scale) a.answers;
-    }
+returns-in-OfP3109-OfP3109 c = rw (c.in-OfP3109-OfP3109.is-0, c.in-OfP3109-OfP3109.is-1) (rw (to_z-of_z w8 c.args.scale c.ranges.scale) at c.dot.ensures.answers)
 
 pub returns-in-OfP3109-OfBinary16 : goal.returns-in-OfP3109-OfBinary16
-returns-in-OfP3109-OfBinary16 c =
-    let a = c.dot-in-OfP3109-OfBinary16.ensures in
-    record {
-      bounded = a.bounded;
-      answers = dot_answers c.args.x_format c.args.y_format _ _ c.args.scale _ c.args.pairs.now c.args.register.now _ _ (ap meaning_of c.in-OfP3109-OfBinary16.is-0) (ap meaning_of c.in-OfP3109-OfBinary16.is-1)
-          (to_z-of_z w8 c.args.scale c.ranges.scale) a.answers;
-    }
+returns-in-OfP3109-OfBinary16 c = rw (c.in-OfP3109-OfBinary16.is-0, c.in-OfP3109-OfBinary16.is-1) (rw (to_z-of_z w8 c.args.scale c.ranges.scale) at c.dot-in-OfP3109-OfBinary16.ensures.answers)
 
 pub returns-in-OfBinary16-OfP3109 : goal.returns-in-OfBinary16-OfP3109
-returns-in-OfBinary16-OfP3109 c =
-    let a = c.dot-in-OfBinary16-OfP3109.ensures in
-    record {
-      bounded = a.bounded;
-      answers = dot_answers c.args.x_format c.args.y_format _ _ c.args.scale _ c.args.pairs.now c.args.register.now _ _ (ap meaning_of c.in-OfBinary16-OfP3109.is-0) (ap meaning_of c.in-OfBinary16-OfP3109.is-1)
-          (to_z-of_z w8 c.args.scale c.ranges.scale) a.answers;
-    }
+returns-in-OfBinary16-OfP3109 c = rw (c.in-OfBinary16-OfP3109.is-0, c.in-OfBinary16-OfP3109.is-1) (rw (to_z-of_z w8 c.args.scale c.ranges.scale) at c.dot-in-OfBinary16-OfP3109.ensures.answers)

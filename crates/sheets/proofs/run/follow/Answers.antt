@@ -1,5 +1,5 @@
 use Rattle.std.proofs.Common.{◌≡◌, ◌<◌, length, vec_items, arith, refl, rules}
-use Rattle.sheets.proofs.SheetLaws.{all_bounded, lines_more, lines_same, shorter, done_none, done_more, done_all, done_fault}
+use Rattle.sheets.proofs.SheetLaws.{lines_more, lines_same, shorter, done_none, done_more, done_all, done_fault}
 use Rattle.sheets.proofs.run.follow.Goals as goal
 
 pub loop-rest-init : goal.loop-rest-init
@@ -7,9 +7,6 @@ loop-rest-init c = done_none c.args.sheet.now (vec_items c.args.lines.now) c.new
 
 pub overflow_add-number : goal.overflow_add-number
 overflow_add-number c = omega (arith, c.loop-rest.invariant.numbered, c.loop-rest.invariant.place_is)
-
-pub step-requires : goal.step-requires
-step-requires c = all_bounded c.loop-rest.bench c.loop-rest.invariant.book c.loop-rest.invariant.keeps
 
 pub loop-rest-smaller-in_ok-push-in-Ok : goal.loop-rest-smaller-in_ok-push-in-Ok
 loop-rest-smaller-in_ok-push-in-Ok c = shorter _ _ _ _ _ _ (c.in-Ok.ensures c.loop-rest.invariant.book c.loop-rest.invariant.keeps)

@@ -11,4 +11,4 @@ returns c n =
     c.in_ok-register.register (to_z w8 (of_z w8 scale)) c.in_ok-x_format.x_format c.in_ok-y_format.y_format
     c.args.self.now _ c.dot.new.register c.dot.result c.placed.result
     c.in_ok-register.ensures c.in_ok-x_format.ensures c.in_ok-y_format.ensures
-    (to_z-of_z w8 scale fits ∙ c.cast_signed-scale.ensures ∙ signed_is c.args.scale (omega arith)) c.dot.ensures.answers c.placed.ensures
+    (to_z-of_z w8 scale fits ∙ c.cast_signed-scale.ensures ∙ signed_is c.args.scale (omega arith)) c.dot.ensures c.placed.ensures
