@@ -1,7 +1,6 @@
 -- The rounded size: it is one of the two neighbours, it keeps order, and where the rule is nearest none is nearer.
 use Rattle.std.proofs.Common.{◌≡◌, ℕ, ◌+◌, ◌-◌, ◌*◌, ◌^◌, ◌<◌, ◌≤◌, Bool, true, false, cond, not, ◌&&◌, eqb, ◌⊎◌, refl, inl, inr, ⊎_elim, arith, rules, pow_pos}
 use native.Mathlib.Nat.{max-le, le-max_left, le-max_right}
-use Rattle.std.proofs.lemmas.Bool.{both_ways}
 use Rattle.layout.specs.Digits.{digits}
 use Rattle.layout.specs.Sizes.{bottom, Shaped}
 use Rattle.layout.proofs.DigitLaws.{digits_mono}
@@ -10,8 +9,6 @@ use Rattle.formats.specs.Meaning.{Meaning, Lawful}
 use Rattle.sums.specs.Cuts.{remainder_of}
 use Rattle.rounding.specs.Rule.{Rule, Monotone, NearestAt}
 use Rattle.rounding.specs.Projection.{last_place, significand_of, left_of, is_odd, goes_away, rounded}
-use Rattle.sums.specs.declared.magnitude.Remainder.{Remainder}
-use Rattle.sums.specs.declared.magnitude.Remainder.TheVariants.{BelowHalf, Half, AboveHalf}
 use Rattle.rounding.proofs.CellLaws.{Cell, cell_at, cell_order, cell_exact, nothing_between, lower_shaped, upper_shaped, shaped_finer}
 
 -- a size in units of 2^-96 that the precision has

@@ -1,6 +1,5 @@
 -- Laws of the projection's steps.
 use Rattle.std.proofs.Common.{◌≡◌, ℕ, suc, ◌+◌, ◌-◌, ◌*◌, ◌/◌, ◌%◌, ◌^◌, ◌<◌, ◌≤◌, max, Bool, true, false, cond, not, None, ◌⊎◌, pos, ℤ, ◌*ℤ◌, sym, refl, ap, ◌∙◌, ap₂, ⊎_elim, mod-lt, mul_assoc, suc-mul, add-one, arith, pow_pos, pow_mono, pow-add, shr_lt, rules}
-use native.Mathlib.Nat.{max_comm}
 use lib.Count.{count_leading_zeros}
 use lib.Pow.{shl-shr}
 use mir.Val.{bool_byte}
@@ -43,8 +42,7 @@ module _ (m : Meaning) (laws : Lawful m) where
   bottom_below =
       let (s, k, is, short, bk) = laws.largest_read.0 in
       let some : 0 < s = ⊎_elim (λ l. l) (λ z. absurd (let e : s ≡ 0 = omega arith in omega (arith, laws.one, rw e at is))) (cases_lt 0 s) in
-      let reach : 1 * 2 ^ k ≤ s * 2 ^ k = mul-le 1 (2 ^ k) s (2 ^ k) some (omega arith) in
-      omega (arith, pow_order k 64 (omega (arith, laws.below)))
+      omega (arith, pow_order k 64 (omega (arith, laws.below, mul-le 1 (2 ^ k) s (2 ^ k) some (omega arith))))
 
   -- the largest value, cut to its precision
   cut_end : (shift : ℕ) → shift ≡ 64 - count_leading_zeros 64 m.largest - m.precision → (m.largest / 2 ^ shift < 2 ^ 12) × (m.largest / 2 ^ shift * 2 ^ shift ≡ m.largest) × (shift < 64)
@@ -73,20 +71,10 @@ module _ (m : Meaning) (laws : Lawful m) where
   unfolding last_place
   place_is n d r is top e =
       let b = bottom_below in
-      let room : 2 ^ digits n ≤ 2 ^ (12 + r) = pow_mono (omega (arith, laws.short)) in (
-        e ∙ ap (λ x. max (x - m.precision) (bottom m.least + 64)) is ∙ max_comm (digits n - m.precision) (bottom m.least + 64),
-        omega arith,
-        omega (arith, laws.precise),
-        omega (arith, digits_below n),
-      )
+      let room : 2 ^ digits n ≤ 2 ^ (12 + r) = pow_mono (omega (arith, laws.short)) in
+      (omega (arith, e, is), omega arith, omega (arith, laws.precise), omega (arith, digits_below n))
 
--- the size against the end, in units of 2^-96 and of 2^-32
-pub within_units : (s place most : ℕ) → 64 ≤ place → s * 2 ^ (place - 64) ≤ most → s * 2 ^ place ≤ most * 2 ^ 64
-within_units s place most h le = omega (arith, in_units s place 64 h)
-
-pub beyond_units : (s place most : ℕ) → 64 ≤ place → most < s * 2 ^ (place - 64) → most * 2 ^ 64 < s * 2 ^ place
-beyond_units s place most h lt = omega (arith, in_units s place 64 h)
-
+-- beyond the end, in units of 2^-96 and of 2^-32
 pub beyond_place : (s place most : ℕ) → 128 ≤ place → 0 < s → most < 2 ^ 64 → most * 2 ^ 64 < s * 2 ^ place
 beyond_place s place most h some lt =
     let far : 2 ^ 128 ≤ 2 ^ place = pow_mono h in
@@ -160,8 +148,7 @@ module _ (m : Meaning) (laws : Lawful m) (rule : Rule) (n : ℕ) (p : Placed) (a
         rw v (record { reading = reading ∙ reads p.negative s (p.place + 32) k 96 up; mark = mark ∙ sym mark_is })
 
     some_digits : 128 ≤ p.place → 0 < s
-    some_digits far =
-        ⊎_elim (λ l. omega (arith, digits_are)) (λ b. absurd (omega (arith, bottom_below m laws))) (place_some m laws n)
+    some_digits far = let w = place_some m laws n in let b = bottom_below m laws in let d = digits_are in search rules
 
     pub overflown : (mode : Saturation) (a : Answer) → ((128 ≤ p.place → 0 < s) → m.largest * 2 ^ 64 < s * 2 ^ p.place) → ((k : ℕ) → m.largest * 2 ^ 64 < k → Answers (finite (signed p.negative k)) (of_overflow m rule mode p.negative) a) → Answers (finite (signed p.negative n)) (of_size m rule mode p.negative n) a
     overflown mode a far answers =

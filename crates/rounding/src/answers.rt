@@ -2,7 +2,8 @@
 
 pub use sums::magnitude::Remainder;
 
-// How the answered reading lies to the exact value.
+// How the answered reading lies to the exact value. Not an `Option<Ordering>`: these are the words that
+// reports print.
 #[derive(Clone, Copy, PartialEq, Eq)]
 pub enum Mark {
     Exact,
