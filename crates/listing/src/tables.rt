@@ -43,8 +43,8 @@ fn code_count<F: Format>(format: &F) -> u32
     1 << format.shape().width
 }
 
-// The lines of the codes below `count`, which is how many there are. A `for` with `?` is no longer
-// than `try_collect`, and tells which error ends it.
+// The lines of the codes below `count`, which is how many there are. A `for`: no lemma of the library
+// reads what `try_collect` answers, and it was not proved.
 fn lines<F: Format>(heap: Global, format: &F, count: u32) -> Result<Vec<String>, Unlisted>
     requires { (count ≡ 2 ^ (F.Format.meaning format.now).width) × (count ≤ 65536) }
     ensures { MatchResult result (λ v. Complete string_bytes (F.Format.meaning format.now) v.items) OnlyMemory }
