@@ -1,15 +1,12 @@
 -- What the functions that read records answer.
 use Rattle.std.specs.Prelude.{◌≡◌, ℕ, ◌<◌, ◌≤◌, true, false, ◌⊎◌, List, length, Ok, Err, Result}
-use Rattle.std.proofs.Common.{rules}
 use Rattle.formats.specs.AnyFormat.{meaning_of, byte_meaning}
 use Rattle.formats.specs.Meaning.{Meaning}
 use Rattle.formats.specs.declared.any.AnyFormat.{AnyFormat}
 use Rattle.registers.specs.Runs.{wide, code_bytes, code_at}
 use Rattle.rounding.specs.Rules.{table_of, ByRuleByte, ByModeByte}
 use Rattle.rounding.specs.declared.answers.Saturation.{Saturation}
-use Rattle.rounding.specs.declared.answers.Saturation.TheVariants.{SatFinite, SatPropagate, OvfInf}
 use Rattle.rounding.specs.declared.rules.AnyRule.{AnyRule}
-use Rattle.rounding.specs.declared.rules.AnyRule.TheVariants.{TiesToEven, TiesToAway, Upward, Downward, Chop}
 use Rattle.records.specs.Bodies.{is_format, rule_of, mode_of, clear_fields, add_fields, dot_fields, join_fields, read_fields}
 use Rattle.records.specs.Entries.{Parsed, refused}
 use Rattle.records.specs.Refusals.{refusal, in_arithmetic, in_record, refusal_of}
@@ -62,25 +59,17 @@ abbrev pub RuleAt : ℕ → ℕ → Result AnyRule RecordFault → Type 0
 RuleAt offset b (Ok r) = (b < 5) × (table_of r ≡ rule_of b)
 RuleAt offset b (Err f) = (5 ≤ b) × (refusal_of f ≡ refusal 10 in_record offset)
 
--- so by the byte of a rule
-pub rule_at : (offset b : ℕ) (r : Result AnyRule RecordFault) → NumberedAt ByRuleByte offset b r → RuleAt offset b r
-rule_at offset b (Ok TiesToEven) is = rw (← is) (search rules)
-rule_at offset b (Ok TiesToAway) is = rw (← is) (search rules)
-rule_at offset b (Ok Upward) is = rw (← is) (search rules)
-rule_at offset b (Ok Downward) is = rw (← is) (search rules)
-rule_at offset b (Ok Chop) is = rw (← is) (search rules)
-rule_at offset b (Err f) ((e, most), refuses) = (most, refuses)
+-- so it is at the byte of a rule
+abbrev pub RulesAt : Type 0
+RulesAt = (offset b : ℕ) (r : Result AnyRule RecordFault) → NumberedAt ByRuleByte offset b r → RuleAt offset b r
 
 abbrev pub ModeAt : ℕ → ℕ → Result Saturation RecordFault → Type 0
 ModeAt offset b (Ok m) = (b < 3) × (m ≡ mode_of b)
 ModeAt offset b (Err f) = (3 ≤ b) × (refusal_of f ≡ refusal 10 in_record offset)
 
--- and by the byte of a mode
-pub mode_at : (offset b : ℕ) (r : Result Saturation RecordFault) → NumberedAt ByModeByte offset b r → ModeAt offset b r
-mode_at offset b (Ok SatFinite) is = rw (← is) (search rules)
-mode_at offset b (Ok SatPropagate) is = rw (← is) (search rules)
-mode_at offset b (Ok OvfInf) is = rw (← is) (search rules)
-mode_at offset b (Err f) ((e, most), refuses) = (most, refuses)
+-- and at the byte of a mode
+abbrev pub ModesAt : Type 0
+ModesAt = (offset b : ℕ) (r : Result Saturation RecordFault) → NumberedAt ByModeByte offset b r → ModeAt offset b r
 
 -- the code that the bytes are, where they are as many as a code of the format takes
 abbrev pub OneCode : ℕ → Meaning → List ℕ → Result ℕ RecordFault → Type 0

@@ -1,7 +1,7 @@
 // The fields of a record, each at its offset from the record's first byte.
 ghost use Rattle.std.specs.Prelude.{◌≡◌};
 ghost use Rattle.formats.specs.AnyFormat.{meaning_of};
-ghost use Rattle.records.specs.Fields.{RegisterAt, FormatAt, NumberedAt, OneCode};
+ghost use Rattle.records.specs.Fields.{RegisterAt, FormatAt, NumberedAt, RulesAt, ModesAt, OneCode};
 
 use crate::fault::RecordFault;
 use formats::any::AnyFormat;
@@ -31,7 +31,9 @@ pub fn format_at(offset: usize, byte: u8) -> Result<AnyFormat, RecordFault>
 pub fn numbered_at<T: TryFrom<u8>>(offset: usize, byte: u8) -> Result<T, RecordFault>
 where
     T::Error: Drop,
-    ensures { NumberedAt T.try_from_gives offset byte result }
+    ensures numbered { NumberedAt T.try_from_gives offset byte result }
+    ensures rules { RulesAt }
+    ensures modes { ModesAt }
 {
     T::try_from(byte).map_err(|_| RecordFault::NoSuchNumber(offset))
 }

@@ -1,11 +1,9 @@
 // The bench: four registers, on which records are performed.
-ghost use Rattle.std.specs.Prelude.{◌≡◌, ℕ, ◌+◌, ◌<◌, ◌≤◌, []};
+ghost use Rattle.std.specs.Prelude.{ℕ, ◌≤◌, []};
 ghost use Rattle.formats.specs.AnyFormat.{meaning_of};
-ghost use Rattle.formats.specs.Refusals.{number_of};
 ghost use Rattle.records.specs.Bodies.{clear_fields, add_fields, dot_fields, join_fields, read_fields};
 ghost use Rattle.records.specs.Fields.{fields_of};
 ghost use Rattle.registers.specs.Calls.{Answers};
-ghost use Rattle.registers.specs.Histories.{Book};
 ghost use Rattle.registers.specs.Runs.{dot_offer};
 ghost use Rattle.sheets.specs.Steps.{Keeps, Performs, Placed};
 

@@ -1,5 +1,5 @@
 // Running a sheet: record after record, to its end or to the first fault.
-ghost use Rattle.std.specs.Prelude.{◌≡◌, ℕ, ◌+◌, ◌*◌, ◌<◌, ◌≤◌, ◌++◌, length, IfOk};
+ghost use Rattle.std.specs.Prelude.{◌≤◌, length, IfOk};
 ghost use Rattle.sheets.specs.Sheets.{reported};
 ghost use Rattle.sheets.specs.Steps.{Heads, Steps, Follows, Reports};
 
