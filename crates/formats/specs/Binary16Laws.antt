@@ -94,4 +94,4 @@ specials = record {
 }
 
 pub binary16_lawful : Lawful binary16
-binary16_lawful = lawful binary16 0x8000 0x7C00 laid (lit≤ tt) 0x7E00 specials
+binary16_lawful = lawful binary16 0x8000 0x7C00 laid (lit≤ tt) specials.nan_read specials.infinite_read

@@ -140,4 +140,4 @@ module _ (k p : ℕ) (there : Exists k p) where
   }
 
   pub p3109_lawful : Lawful (p3109 k p)
-  p3109_lawful = lawful (p3109 k p) (2 ^ (k - 1)) (2 ^ (k - 1) - 1) laid (omega arith) (2 ^ (k - 1)) specials
+  p3109_lawful = lawful (p3109 k p) (2 ^ (k - 1)) (2 ^ (k - 1) - 1) laid (omega arith) specials.nan_read specials.infinite_read

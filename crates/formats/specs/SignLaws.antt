@@ -123,8 +123,8 @@ module _ (m : Meaning) (sign n : ℕ) (laid : IsSignMagnitude m sign n) where
   only_representable : (c : ℕ) (z : ℤ) → c < 2 ^ m.width → m.decode c ≡ finite z → Representable m (unsigned_abs z)
   only_representable c z lt e = let (k, below, is) = laid.only c z lt e in size_representable k (unsigned_abs z) below is
 
-  pub lawful : m.width ≤ 16 → (none : ℕ) → HasSpecials m sign n none → Lawful m
-  lawful narrow none specials =
+  pub lawful : m.width ≤ 16 → Coded m nan → ((negative : Bool) → Coded m (infinite negative)) → Lawful m
+  lawful narrow not-a-number infinities =
       let last : n - 1 < n = omega (arith, laid.some) in
       let e = bottom m.least + (m.precision - 1) + (n - 1) / 2 ^ (m.precision - 1) in
       let le : e ≤ 64 = omega (arith, laid.top, laid.precise) in
@@ -137,8 +137,8 @@ module _ (m : Meaning) (sign n : ℕ) (laid : IsSignMagnitude m sign n) where
         one = laid.one;
         below = omega (arith, size_below m.precision (bottom m.least) (n - 1) precise, laid.largest_is);
         largest_read = size_representable (n - 1) m.largest last laid.largest_is;
-        nan_read = specials.nan_read;
-        infinite_read = specials.infinite_read;
+        nan_read = not-a-number;
+        infinite_read = infinities;
         finite_read = finite_coded;
         only_those = only_representable;
       }
