@@ -50,6 +50,7 @@ pub(crate) fn compared(rt: &HostRuntime, file: &str) -> io::Result<Tally> {
 fn agrees(file: &str, row: &str) -> Option<bool> {
     let (first, rest) = parted(row, '\t');
     let (second, third) = parted(rest, '\t');
+    // A match: a table of functions would have to be searched by the name, and still need the last arm.
     match file {
         "extremes.tsv" => extreme_agrees(first, second, third),
         "counts.tsv" => count_agrees(first, second, third),

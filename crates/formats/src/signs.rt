@@ -59,6 +59,7 @@ impl SignMagnitude {
         if code == self.nan || magnitude > self.magnitudes.count {
             return Ok(Reading::Nan);
         }
+        // A match, since None has two answers.
         match self.magnitudes.at(magnitude) {
             Some(size) => Ok(Reading::Finite(join(code >= sign, size))),
             None if code >= sign => Ok(Reading::NegativeInfinity),

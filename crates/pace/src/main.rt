@@ -55,9 +55,7 @@ fn tell_sum(rt: &HostRuntime, title: &str, sum: &Sum) -> anyhow::Result<()> {
 // What a register reads after a dot of 10,000 products, in the second format under rule 0 and mode 2.
 // The precisions depend on the number of words, so that the compiler does not know them.
 fn tell_dot(rt: &HostRuntime, words: u8) -> anyhow::Result<()> {
-    let Ok(((code, _), count)) = dotted(words) else {
-        return Err(anyhow!("the products were refused"));
-    };
+    let ((code, _), count) = dotted(words).map_err(|_| anyhow!("the products were refused"))?;
     println!(rt; "dot: {count} products, code: {code}")?;
     Ok(())
 }
@@ -90,7 +88,8 @@ fn drawn(i: u32) -> Scaled
     }
 }
 
-// The terms in one sum.
+// The terms in one sum: the numbers that they are drawn from are counted, and are no indices. `Within`
+// stands in three contracts and in no type, since it speaks of a count too.
 fn added(count: u32) -> Sum
     requires { count ≤ 100000 }
     ensures { Within count result }

@@ -12,14 +12,6 @@ mod tests {
     use std::process::Abort;
     use std::test::Fail;
 
-    fn refused(_fault: Fault) -> Fail {
-        Fail::new("refused")
-    }
-
-    fn format(width: u8, precision: u8) -> Result<P3109, Fail> {
-        P3109::new(width, precision).map_err(refused)
-    }
-
     // What the register reads in binary8p4 under rule 0 and mode 2.
     fn reads(
         rt: &impl Abort,
@@ -28,7 +20,7 @@ mod tests {
         mark: Mark,
         count: u32,
     ) -> Result<(), Fail> {
-        let answer = register.read(&format(8, 4)?, &NearestTiesToEven, Saturation::OvfInf);
+        let answer = register.read(&P3109::new(8, 4)?, &NearestTiesToEven, Saturation::OvfInf);
         let ((read, side), terms) = answer;
         assert!(rt; read == code && side == mark && terms == count);
         Ok(())
@@ -37,33 +29,31 @@ mod tests {
     #[test]
     fn nothing_is_lost(rt: HostRuntime) -> Result<(), Fail> {
         let mut register = Register::new();
-        register.add(&format(8, 2)?, 0x7E).map_err(refused)?;
-        register.add(&format(8, 4)?, 0x01).map_err(refused)?;
-        register.add(&format(8, 2)?, 0xFE).map_err(refused)?;
+        register.add(&P3109::new(8, 2)?, 0x7E)?;
+        register.add(&P3109::new(8, 4)?, 0x01)?;
+        register.add(&P3109::new(8, 2)?, 0xFE)?;
         reads(&rt, &register, 0x01, Mark::Exact, 3)
     }
 
     #[test]
     fn zero_times_infinity(rt: HostRuntime) -> Result<(), Fail> {
-        let binary8p4 = format(8, 4)?;
+        let binary8p4 = P3109::new(8, 4)?;
         let mut register = Register::new();
-        register
-            .product(&binary8p4, &binary8p4, 0, 0x00, 0x7F)
-            .map_err(refused)?;
+        register.product(&binary8p4, &binary8p4, 0, 0x00, 0x7F)?;
         reads(&rt, &register, 0x80, Mark::Unordered, 1)
     }
 
     // A register with 2^doublings terms of a value, less one where `short` says so.
     fn grown(doublings: u32, short: bool) -> Result<Register, Fail> {
-        let binary8p4 = format(8, 4)?;
+        let binary8p4 = P3109::new(8, 4)?;
         let mut register = Register::new();
         if !short {
-            register.add(&binary8p4, 0x40).map_err(refused)?;
+            register.add(&binary8p4, 0x40)?;
         }
         for _ in 0..doublings {
-            register.join_itself().map_err(refused)?;
+            register.join_itself()?;
             if short {
-                register.add(&binary8p4, 0x40).map_err(refused)?;
+                register.add(&binary8p4, 0x40)?;
             }
         }
         Ok(register)
@@ -75,8 +65,12 @@ mod tests {
         let before = register;
         assert!(rt; register.join_itself() == Err(Fault::RegisterFull));
         assert!(rt; register.equals(&before));
-        register.join(&grown(31, true)?).map_err(refused)?;
-        let ((_, _), count) = register.read(&format(8, 4)?, &NearestTiesToEven, Saturation::OvfInf);
+        register.join(&grown(31, true)?)?;
+        let ((_, _), count) = register.read(
+            &P3109::new(8, 4)?,
+            &NearestTiesToEven,
+            Saturation::OvfInf,
+        );
         assert!(rt; count == u32::MAX);
         Ok(())
     }
@@ -96,16 +90,16 @@ mod tests {
 
     #[test]
     fn a_refused_dot_brings_nothing(rt: HostRuntime) -> Result<(), Fail> {
-        let x_format = format(8, 4)?;
-        let y_format = format(6, 3)?;
+        let x_format = P3109::new(8, 4)?;
+        let y_format = P3109::new(6, 3)?;
         let mut register = Register::new();
-        register.add(&x_format, 0x40).map_err(refused)?;
+        register.add(&x_format, 0x40)?;
         let before = register;
         for (scale, run, fault) in REFUSED.iter().copied() {
             assert!(rt; register.dot(&x_format, &y_format, scale, run) == Err(fault));
             assert!(rt; register.equals(&before));
         }
-        register.dot(&x_format, &y_format, 0, &[]).map_err(refused)?;
+        register.dot(&x_format, &y_format, 0, &[])?;
         assert!(rt; register.equals(&before));
         Ok(())
     }
@@ -113,24 +107,19 @@ mod tests {
     // A dot brings what its products bring one by one, in one byte a code and in two.
     #[test]
     fn a_dot_brings_its_products(rt: HostRuntime) -> Result<(), Fail> {
-        let x_format = format(8, 4)?;
+        let x_format = P3109::new(8, 4)?;
         let mut whole = Register::new();
-        whole
-            .dot(
-                &x_format,
-                &Binary16,
-                -7,
-                &[0x41, 0x01, 0x3C, 0xFE, 0xFF, 0x7B],
-            )
-            .map_err(refused)?;
+        whole.dot(
+            &x_format,
+            &Binary16,
+            -7,
+            &[0x41, 0x01, 0x3C, 0xFE, 0xFF, 0x7B],
+        )?;
         let mut each = Register::new();
-        each.product(&x_format, &Binary16, -7, 0x41, 0x3C01)
-            .map_err(refused)?;
-        each.product(&x_format, &Binary16, -7, 0xFE, 0x7BFF)
-            .map_err(refused)?;
+        each.product(&x_format, &Binary16, -7, 0x41, 0x3C01)?;
+        each.product(&x_format, &Binary16, -7, 0xFE, 0x7BFF)?;
         assert!(rt; whole.equals(&each));
-        each.product(&x_format, &Binary16, -7, 0x00, 0x0000)
-            .map_err(refused)?;
+        each.product(&x_format, &Binary16, -7, 0x00, 0x0000)?;
         assert!(rt; !whole.equals(&each));
         Ok(())
     }

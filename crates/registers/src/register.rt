@@ -114,7 +114,8 @@ impl Register {
         self.bring(other)
     }
 
-    // Brings the register's own terms once more. Refused: a count that would pass 4,294,967,295 (5).
+    // Brings the register's own terms once more, as `join` can't be asked: it lends the register twice.
+    // Refused: a count that would pass 4,294,967,295 (5).
     pub fn join_itself(&mut self) -> Result<(), Fault>
         ensures answers { Joins self.old self.old result self.new }
         ensures recorded { RecordedJoin self.old self.old self.new }

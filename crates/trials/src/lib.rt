@@ -34,9 +34,7 @@ mod tests {
                 significand,
                 exponent,
             };
-            let Ok(format) = AnyFormat::try_from(byte) else {
-                return Err(Fail::new("no such format"));
-            };
+            let format = AnyFormat::try_from(byte)?;
             assert_eq!(rt;
                 format.encode(Reading::Finite(value)),
                 code.ok_or(Fault::ValueNotRepresentable)
@@ -88,9 +86,7 @@ mod tests {
 
     #[test]
     fn lines_of_binary16(rt: HostRuntime) -> Result<(), Fail> {
-        let Ok(format) = AnyFormat::try_from(0) else {
-            return Err(Fail::new("no such format"));
-        };
+        let format = AnyFormat::try_from(0)?;
         for (code, line) in LINES {
             let text = row(rt.alloc(), &format, code)?;
             assert_eq!(rt; text.as_str(), line);
