@@ -1,6 +1,9 @@
 -- The terms of a run of pairs, pair after pair.
-use Rattle.std.proofs.Common.{◌≡◌, ℕ, zero, suc, ◌+◌, ◌-◌, ◌*◌, ◌/◌, ◌^◌, ◌<◌, ◌≤◌, Bool, true, List, [], ◌∷◌, ◌++◌, length, ℤ, pos, Ok, Err, sym, refl, ap, ◌∙◌, subst, ap₂, mul-le-mul_right, add-mul, mul-le-mul, div-mul-le_self, add-one, arith}
+use Rattle.std.proofs.Common.{◌≡◌, ℕ, zero, suc, ◌+◌, ◌-◌, ◌*◌, ◌/◌, ◌^◌, ◌<◌, ◌≤◌, Bool, true, List, [], ◌∷◌, ◌++◌, length, ℤ, pos, Ok, Err, sym, refl, ap, ◌∙◌, subst, ap₂, mul-le-mul_right, add-mul, mul-le-mul, div-mul-le_self, add-one, add-zero, add_assoc, mul-le-mul_left, take, drop, slice_index, false, arith}
+use Rattle.std.proofs.Math.Nat.{div-eq_of_lt-le, zero-mul}
 use Rattle.std.proofs.lemmas.Bool.{lt-ltb}
+use Rattle.std.proofs.lemmas.Nat.{le-div}
+use Rattle.std.proofs.lemmas.List.{get_or-drop, get_or-take, take_at, drop_at, drop-drop, length-append}
 use Rattle.formats.specs.Meaning.{Meaning}
 use Rattle.formats.specs.Value.{Value, finite, signed}
 use Rattle.formats.specs.declared.fault.Fault.{Fault}
@@ -14,8 +17,8 @@ use Rattle.terms.specs.Terms.{exact_sum}
 use Rattle.terms.specs.declared.term.Term.{Term}
 use Rattle.terms.proofs.SumLaws.{exact_sum_none, exact_sum_last}
 use Rattle.registers.specs.Batches.{Gathers}
-use Rattle.registers.specs.PairReads.{PairsOf, bytes_of_pair, BothFit, OneDoesNot, whole_offer}
-use Rattle.registers.specs.Runs.{bytes_of, wide_at, pair_bytes, term_at, pair_terms, none, at, or_else, bad_pair, bad_code, unless_bad, pairs}
+use Rattle.registers.specs.PairReads.{PairsOf, bytes_of_pair, IsPair, BothFit, OneDoesNot, whole_offer}
+use Rattle.registers.specs.Runs.{code_at, bytes_of, wide_at, x_code, y_code, pair_bytes, term_at, pair_terms, none, at, or_else, bad_pair, bad_code, unless_bad, pairs}
 use Rattle.registers.specs.declared.batch.Batch.{Batch}
 use Rattle.registers.specs.declared.pairs.Pairs.{Pairs}
 
@@ -24,6 +27,13 @@ pub record SoFar (m n : Meaning) (s : ℤ) (run : List ℕ) (i : ℕ) (t : Sum) 
   pub bound : size t ≤ i * 2 ^ 191
   pub clean : bad_code m n run i ≡ none
   pub summed : value t ≡ exact_sum (pair_terms m n s run i)
+
+-- the sum of the first i pairs, after which the rest of the run lies
+pub record Walk (m n : Meaning) (s : ℤ) (run : List ℕ) (p : Pairs) (size : ℕ) (rest : List ℕ) (i : ℕ) (t : Sum) : Type 0 where
+  pub size_is : size ≡ bytes_of_pair p
+  pub rest_is : rest ≡ drop (i * size) run
+  pub left : i * size + length rest ≡ length run
+  pub far : SoFar m n s run i t
 
 pub bytes_of_lem : (m n : Meaning) (p : Pairs) → PairsOf m n p → bytes_of_pair p ≡ pair_bytes m n
 bytes_of_lem m n p of = ap₂ (λ v w. bytes_of (wide_at v) + bytes_of (wide_at w)) of.x of.y
@@ -60,19 +70,80 @@ so_far_more m n s run i x y v t u far both is sum bound =
       summed = sum ∙ ap₂ plus far.summed is ∙ sym (exact_sum_last (pair_terms m n s run i) (term_at m n s run i));
     })
 
--- the i-th pair is in the run
-pub in_run : (i b long : ℕ) → i < long / b → i * b + b ≤ long
-in_run i b long lt =
-    let le : (i + 1) * b ≤ long / b * b = mul-le-mul_right b (omega arith) in
-    omega (arith, add-mul i 1 b, div-mul-le_self long b)
+byte_in : (run : List ℕ) (place n k : ℕ) → k < n → slice_index (take n (drop place run)) k ≡ slice_index run (place + k)
+byte_in run place n k lt = get_or-take n (drop place run) k 0 lt ∙ get_or-drop place run k 0
+
+first_code : (w : Bool) (run : List ℕ) (place n : ℕ) → bytes_of w ≤ n → code_at w (take (bytes_of w) (take n (drop place run))) 0 ≡ code_at w run place
+first_code true run place n le =
+    let whole = take n (drop place run) in
+    rw (get_or-take 2 whole 0 0 (omega arith), get_or-take 2 whole 1 0 (omega arith), byte_in run place n 0 (omega (arith, le)), byte_in run place n 1 (omega (arith, le)), add-zero place) refl
+first_code false run place n le =
+    let whole = take n (drop place run) in
+    rw (get_or-take 1 whole 0 0 (omega arith), byte_in run place n 0 (omega (arith, le)), add-zero place) refl
+
+code_after : (w : Bool) (run : List ℕ) (place b n : ℕ) → b + bytes_of w ≤ n → code_at w (drop b (take n (drop place run))) 0 ≡ code_at w run (place + b)
+code_after true run place b n le =
+    let whole = take n (drop place run) in
+    rw (get_or-drop b whole 0 0, get_or-drop b whole 1 0, byte_in run place n (b + 0) (omega (arith, le)), byte_in run place n (b + 1) (omega (arith, le)), add-zero b, add_assoc place b 1) refl
+code_after false run place b n le =
+    let whole = take n (drop place run) in
+    rw (get_or-drop b whole 0 0, byte_in run place n (b + 0) (omega (arith, le)), add-zero b) refl
+
+-- the codes of a pair's bytes are those of the run
+pub pair_codes : (m n : Meaning) (p : Pairs) (run : List ℕ) (i place : ℕ) (bytes : List ℕ) → PairsOf m n p → IsPair p run i place bytes →
+    (code_at (wide_at p.x.width) (take (bytes_of (wide_at p.x.width)) bytes) 0 ≡ x_code m n run i)
+    × (code_at (wide_at p.y.width) (drop (bytes_of (wide_at p.x.width)) bytes) 0 ≡ y_code m n run i)
+pair_codes m n p run i place bytes of is =
+    let w = wide_at p.x.width in
+    let v = wide_at p.y.width in
+    let size = bytes_of w + bytes_of v in
+    rw (is.bytes_are)
+    (rw (first_code w run place size (omega arith), code_after v run place (bytes_of w) size (omega arith), is.place_is, of.x, of.y) (refl, refl))
+
+pub walk_start : (m n : Meaning) (s : ℤ) (run : List ℕ) (p : Pairs) (each : ℕ) (rest : List ℕ) (i : ℕ) (t : Sum) → each ≡ bytes_of_pair p → rest ≡ run → i ≡ 0 → value t ≡ finite (pos 0) → Walk m n s run p each rest i t
+walk_start m n s run p each rest i t is-each is start-is e =
+    let start : i * each ≡ 0 = ap (λ j. j * each) start-is ∙ zero-mul each in
+    record {
+      size_is = is-each;
+      rest_is = is ∙ ap (λ k. drop k run) (sym start);
+      left = omega (arith, start, ap length is);
+      far = subst (λ j. SoFar m n s run j t) (sym start-is) (so_far_none m n s run t e);
+    }
+
+-- the bytes that come next are those of the i-th pair
+pub walk_pair : (m n : Meaning) (s : ℤ) (run : List ℕ) (p : Pairs) (each : ℕ) (rest pair rest' : List ℕ) (i : ℕ) (t : Sum) → Walk m n s run p each rest i t → rest ≡ pair ++ rest' → length pair ≡ each → IsPair p run i (i * bytes_of_pair p) pair
+walk_pair m n s run p each rest pair rest' i t walk is long =
+    let here : pair ++ rest' ≡ drop (i * bytes_of_pair p) run = sym is ∙ subst (λ b. rest ≡ drop (i * b) run) walk.size_is walk.rest_is in
+    record {
+      place_is = refl;
+      bytes_are = sym (take_at pair rest' (bytes_of_pair p) (long ∙ walk.size_is)) ∙ ap (take (bytes_of_pair p)) here;
+    }
+
+-- and lie in the run
+pub walk_inside : (m n : Meaning) (s : ℤ) (run : List ℕ) (p : Pairs) (each : ℕ) (rest pair rest' : List ℕ) (i : ℕ) (t : Sum) → Walk m n s run p each rest i t → rest ≡ pair ++ rest' → length pair ≡ each → (i + 1) * bytes_of_pair p ≤ length run
+walk_inside m n s run p each rest pair rest' i t walk is long =
+    subst (λ b. (i + 1) * b ≤ length run) walk.size_is (omega (arith, walk.left, long, ap length is, length-append pair rest', add-mul i 1 each))
+
+pub walk_next : (m n : Meaning) (s : ℤ) (run : List ℕ) (p : Pairs) (each : ℕ) (rest pair rest' : List ℕ) (i : ℕ) (t u : Sum) → Walk m n s run p each rest i t → rest ≡ pair ++ rest' → length pair ≡ each → SoFar m n s run (i + 1) u → Walk m n s run p each rest' (i + 1) u
+walk_next m n s run p each rest pair rest' i t u walk is long far = record {
+  size_is = walk.size_is;
+  rest_is = sym (drop_at pair rest' each long) ∙ ap (drop each) (sym is ∙ walk.rest_is) ∙ drop-drop each (i * each) run ∙ ap (λ k. drop k run) (omega (arith, add-mul i 1 each));
+  left = omega (arith, walk.left, long, ap length is, length-append pair rest', add-mul i 1 each);
+  far = far;
+}
+
+-- where no whole pair is left, all have come
+pub walk_end : (m n : Meaning) (s : ℤ) (run : List ℕ) (p : Pairs) (each : ℕ) (rest : List ℕ) (i : ℕ) (t : Sum) → Walk m n s run p each rest i t → length rest < each → length run / bytes_of_pair p ≡ i
+walk_end m n s run p each rest i t walk short =
+    subst (λ b. length run / b ≡ i) walk.size_is
+    (div-eq_of_lt-le each (omega (arith, walk.left)) (omega (arith, walk.left, short, add-mul i 1 each)))
 
 -- room for the next term
-pub room : (i long size : ℕ) (p : Pairs) → size ≤ i * 2 ^ 191 → i < long / bytes_of_pair p → long < 2 ^ 64 → size + 2 ^ 191 ≤ 2 ^ 255
-room i long size p bound lt short =
+pub room : (i long size : ℕ) (p : Pairs) → size ≤ i * 2 ^ 191 → (i + 1) * bytes_of_pair p ≤ long → long < 2 ^ 64 → size + 2 ^ 191 ≤ 2 ^ 255
+room i long each p bound inside short =
     let two : 2 ≤ bytes_of_pair p = grind arith in
-    let le : (i + 1) * 2 ≤ long / bytes_of_pair p * bytes_of_pair p = mul-le-mul (omega arith) two in
-    let d = div-mul-le_self long (bytes_of_pair p) in
-    omega arith
+    let le : (i + 1) * 2 ≤ (i + 1) * bytes_of_pair p = mul-le-mul_left (i + 1) two in
+    omega (arith, le, inside)
 
 -- the first code that is too large stays the first
 stays : (m n : Meaning) (run : List ℕ) (i more place : ℕ) → bad_code m n run i ≡ at place → bad_code m n run (more + i) ≡ at place
@@ -85,10 +156,12 @@ below : (i k : ℕ) → i < k → (more : ℕ) × (more + suc i ≡ k)
 below i k lt = (k - (i + 1), omega arith)
 
 -- a pair with a code that is too large
-pub pair_refused : (m n : Meaning) (s : ℤ) (run : List ℕ) (i : ℕ) (f : Fault) → bad_code m n run i ≡ none → i < pairs m n run → OneDoesNot m n run i f → Gathers (whole_offer m n s run) (Err f)
-pair_refused m n s run i f clean lt bad =
+pub pair_refused : (m n : Meaning) (s : ℤ) (run : List ℕ) (p : Pairs) (i : ℕ) (f : Fault) → PairsOf m n p → bad_code m n run i ≡ none → (i + 1) * bytes_of_pair p ≤ length run → OneDoesNot m n run i f → Gathers (whole_offer m n s run) (Err f)
+pair_refused m n s run p i f of clean inside bad =
+    let two : 0 < pair_bytes m n = grind arith in
+    let lt : i + 1 ≤ pairs m n run = le-div (i + 1) (length run) (pair_bytes m n) two (subst (λ b. (i + 1) * b ≤ length run) (bytes_of_lem m n p of) inside) in
     let here : bad_code m n run (suc i) ≡ at bad.place = rw clean bad.found in
-    let (more, is) = below i (pairs m n run) lt in
+    let (more, is) = below i (pairs m n run) (omega (arith, lt)) in
     let found : bad_code m n run (pairs m n run) ≡ at bad.place =
     subst (λ k. bad_code m n run k ≡ at bad.place) is (stays m n run (suc i) more bad.place here) in
     subst (λ x. Gathers (unless_bad x (terms (pair_terms m n s run (pairs m n run)))) (Err f)) (sym found) bad.refuses

@@ -1,5 +1,5 @@
 -- Pairs of codes as they are read from a run.
-use Rattle.std.specs.Prelude.{◌≡◌, ℕ, ◌+◌, ◌^◌, ◌<◌, ◌≤◌, List, ℤ, Ok, Err, Result}
+use Rattle.std.specs.Prelude.{◌≡◌, ℕ, ◌+◌, ◌*◌, ◌^◌, ◌<◌, ◌≤◌, List, take, drop, ℤ, Ok, Err, Result}
 use Rattle.formats.specs.Meaning.{Meaning}
 use Rattle.formats.specs.Refusals.{Refuses}
 use Rattle.formats.specs.declared.fault.Fault.{Fault}
@@ -13,6 +13,11 @@ pub record PairsOf (m n : Meaning) (p : Pairs) : Type 0 where
 
 abbrev pub bytes_of_pair : Pairs → ℕ
 bytes_of_pair p = bytes_of (wide_at p.x.width) + bytes_of (wide_at p.y.width)
+
+-- the i-th pair of a run lies at a place and is these bytes
+pub record IsPair (p : Pairs) (run : List ℕ) (i place : ℕ) (bytes : List ℕ) : Type 0 where
+  pub place_is : place ≡ i * bytes_of_pair p
+  pub bytes_are : bytes ≡ take (bytes_of_pair p) (drop place run)
 
 pub record BothFit (m n : Meaning) (run : List ℕ) (i x y : ℕ) : Type 0 where
   pub x_is : x ≡ x_code m n run i
