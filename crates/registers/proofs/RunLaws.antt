@@ -1,7 +1,8 @@
 -- The terms of a run of pairs, pair after pair.
-use Rattle.std.proofs.Common.{◌≡◌, ℕ, zero, suc, ◌+◌, ◌-◌, ◌*◌, ◌/◌, ◌^◌, ◌<◌, ◌≤◌, Bool, true, List, [], ◌∷◌, ◌++◌, length, ℤ, pos, Ok, Err, sym, refl, ap, ◌∙◌, subst, ap₂, mul-le-mul_right, add-mul, mul-le-mul, div-mul-le_self, add-one, add-zero, add_assoc, mul-le-mul_left, take, drop, slice_index, false, arith}
+use Rattle.std.proofs.Common.{rules, ◌⊎◌, inl, inr, ◌≡◌, ℕ, zero, suc, ◌+◌, ◌-◌, ◌*◌, ◌/◌, ◌^◌, ◌<◌, ◌≤◌, Bool, true, List, [], ◌∷◌, ◌++◌, length, ℤ, pos, Result, IsErrAnd, Ok, Err, sym, refl, ap, ◌∙◌, subst, ap₂, mul-le-mul_right, add-mul, mul-le-mul, div-mul-le_self, add-one, add-zero, add_assoc, mul-le-mul_left, take, drop, slice_index, false, arith}
 use Rattle.std.proofs.Math.Nat.{div-eq_of_lt-le, zero-mul}
 use Rattle.std.proofs.lemmas.Bool.{lt-ltb}
+use Rattle.std.proofs.lemmas.Result.{err_from_is_err_and}
 use Rattle.std.proofs.lemmas.Nat.{le-div}
 use Rattle.std.proofs.lemmas.List.{get_or-drop, get_or-take, take_at, drop_at, drop-drop, length-append}
 use Rattle.formats.specs.Meaning.{Meaning}
@@ -14,10 +15,12 @@ use Rattle.sums.proofs.SizeBound.{term_size}
 use Rattle.terms.specs.Offers.{terms, pair_term, pair_offer, Offers}
 use Rattle.terms.specs.Readings.{term_value}
 use Rattle.terms.specs.Terms.{exact_sum}
+use Rattle.terms.specs.declared.scaled.Scaled.{Scaled}
 use Rattle.terms.specs.declared.term.Term.{Term}
+use Rattle.terms.specs.declared.term.Term.TheVariants.{Finite}
 use Rattle.terms.proofs.SumLaws.{exact_sum_none, exact_sum_last}
 use Rattle.registers.specs.Batches.{Gathers}
-use Rattle.registers.specs.PairReads.{PairsOf, bytes_of_pair, IsPair, BothFit, OneDoesNot, whole_offer}
+use Rattle.registers.specs.PairReads.{PairsOf, bytes_of_pair, IsPair, BothFit, OneDoesNot, PairRead, whole_offer}
 use Rattle.registers.specs.Runs.{code_at, bytes_of, wide_at, x_code, y_code, pair_bytes, term_at, pair_terms, none, at, or_else, bad_pair, bad_code, unless_bad, pairs}
 use Rattle.registers.specs.declared.batch.Batch.{Batch}
 use Rattle.registers.specs.declared.pairs.Pairs.{Pairs}
@@ -100,6 +103,23 @@ pair_codes m n p run i place bytes of is =
     rw (is.bytes_are)
     (rw (first_code w run place size (omega arith), code_after v run place (bytes_of w) size (omega arith), is.place_is, of.x, of.y) (refl, refl))
 
+pub pair_fits : (m n : Meaning) (p : Pairs) (run : List ℕ) (i place : ℕ) (bytes : List ℕ) (x y : ℕ) → PairsOf m n p → IsPair p run i place bytes → PairRead p bytes place (Ok (x, y)) → BothFit m n run i x y
+pair_fits m n p run i place bytes x y of is read =
+    let codes = pair_codes m n p run i place bytes of is in
+    record { x_is = read.0 ∙ codes.0; y_is = read.1 ∙ codes.1; x_fits = rw of.x at read.2; y_fits = rw of.y at read.3 }
+
+pub pair_does_not : (m n : Meaning) (p : Pairs) (run : List ℕ) (i place : ℕ) (bytes : List ℕ) (f : Fault) → PairsOf m n p → IsPair p run i place bytes → PairRead p bytes place (Err f) → OneDoesNot m n run i f
+pair_does_not m n p run i place bytes f of is (inl bad) =
+    let codes = pair_codes m n p run i place bytes of is in
+    search (rules, codes)
+pair_does_not m n p run i place bytes f of is (inr bad) =
+    let codes = pair_codes m n p run i place bytes of is in
+    search (rules, codes)
+
+-- a finite term below 2^191 raises the size by no more
+pub finite_grows : (old new : Sum) (n : ℕ) (negative : Bool) → value new ≡ plus (value old) (finite (signed negative n)) → n < 2 ^ 191 → size new ≤ size old + 2 ^ 191
+finite_grows old new n negative is small = omega (arith, term_size old new n negative is)
+
 pub walk_start : (m n : Meaning) (s : ℤ) (run : List ℕ) (p : Pairs) (each : ℕ) (rest : List ℕ) (i : ℕ) (t : Sum) → each ≡ bytes_of_pair p → rest ≡ run → i ≡ 0 → value t ≡ finite (pos 0) → Walk m n s run p each rest i t
 walk_start m n s run p each rest i t is-each is start-is e =
     let start : i * each ≡ 0 = ap (λ j. j * each) start-is ∙ zero-mul each in
@@ -180,6 +200,39 @@ all_gathered m n s run b far count =
     subst (λ x. Gathers (unless_bad x (terms (pair_terms m n s run (pairs m n run)))) (Ok b)) (sym far.clean)
     (count ∙ sym (pairs_count m n s run (pairs m n run)), far.summed)
 
--- a finite term below 2^191 raises the size by no more
-pub finite_grows : (old new : Sum) (n : ℕ) (negative : Bool) → value new ≡ plus (value old) (finite (signed negative n)) → n < 2 ^ 191 → size new ≤ size old + 2 ^ 191
-finite_grows old new n negative is small = omega (arith, term_size old new n negative is)
+-- the refusal of the pair that comes next is the run's
+pub walk_refused : (m n : Meaning) (s : ℤ) (run : List ℕ) (p : Pairs) (each : ℕ) (rest pair rest' : List ℕ) (i j b : ℕ) (t : Sum) (q : Result (ℕ × ℕ) Fault) (f : Fault) (r : Result Batch Fault) →
+    Walk m n s run p each rest i t → PairsOf m n p → PairRead p pair (j * b) q → length pair ≡ each → j ≡ i → b ≡ bytes_of_pair p → rest ≡ pair ++ rest' → q ≡ Err f → IsErrAnd r (λ g. g ≡ f) → Gathers (whole_offer m n s run) r
+walk_refused m n s run p each rest pair rest' i j b t q f r walk of read long turn size-is is bad err =
+    let (same, failed, is-f) = err_from_is_err_and {Q = λ g. g ≡ f} r err in
+    let here : IsPair p run i (j * b) pair = rw (turn, size-is) (walk_pair m n s run p each rest pair rest' i t walk is long) in
+    rw (failed, is-f) (pair_refused m n s run p i f of walk.far.clean (walk_inside m n s run p each rest pair rest' i t walk is long) (pair_does_not m n p run i (j * b) pair f of here (rw bad at read)))
+
+-- the term of the pair that comes next goes to the sum
+pub walk_on : (m n : Meaning) (s : ℤ) (run : List ℕ) (p : Pairs) (each each' : ℕ) (rest pair rest' : List ℕ) (i i' j b x y : ℕ) (t u : Sum) (q : Result (ℕ × ℕ) Fault) (o : Result Term Fault) (v : Term) →
+    Walk m n s run p each rest i t → PairsOf m n p → PairRead p pair (j * b) q → Offers (pair_offer m n s x y) o → length pair ≡ each → j ≡ i → b ≡ bytes_of_pair p → rest ≡ pair ++ rest' → each' ≡ each → i' ≡ i + 1 → q ≡ Ok (x, y) → o ≡ Ok v → value u ≡ plus (value t) (term_value v) → size u ≤ size t + 2 ^ 191 → Walk m n s run p each' rest' i' u
+walk_on m n s run p each each' rest pair rest' i i' j b x y t u q o v walk of read offers long turn size-is is same next good term sum bound =
+    let here : IsPair p run i (j * b) pair = rw (turn, size-is) (walk_pair m n s run p each rest pair rest' i t walk is long) in
+    let both = pair_fits m n p run i (j * b) pair x y of here (rw good at read) in
+    let far = so_far_more m n s run i x y (term_value v) t u walk.far both (product_term m n s run i x y v both (rw term at offers)) sum bound in
+    rw (same, next) (walk_next m n s run p each rest pair rest' i t u walk is long far)
+
+pub walk_on_finite : (m n : Meaning) (s : ℤ) (run : List ℕ) (p : Pairs) (each each' : ℕ) (rest pair rest' : List ℕ) (i i' j b x y : ℕ) (t u : Sum) (q : Result (ℕ × ℕ) Fault) (o : Result Term Fault) (v : Term) (w : Scaled) →
+    Walk m n s run p each rest i t → PairsOf m n p → PairRead p pair (j * b) q → Offers (pair_offer m n s x y) o → length pair ≡ each → j ≡ i → b ≡ bytes_of_pair p → rest ≡ pair ++ rest' → each' ≡ each → i' ≡ i + 1 → q ≡ Ok (x, y) → o ≡ Ok v → v ≡ Finite w → value u ≡ plus (value t) (finite (signed w.negative (w.digits * 2 ^ w.place))) → Walk m n s run p each' rest' i' u
+walk_on_finite m n s run p each each' rest pair rest' i i' j b x y t u q o v w walk of read offers long turn size-is is same next good term which sum =
+    walk_on m n s run p each each' rest pair rest' i i' j b x y t u q o v walk of read offers long turn size-is is same next good term (rw which sum) (finite_grows t u _ _ sum w.small)
+
+-- which is not refused
+pub walk_stands : (m n : Meaning) (s : ℤ) (run : List ℕ) (p : Pairs) (each : ℕ) (rest pair rest' : List ℕ) (i j b x y : ℕ) (t : Sum) (q : Result (ℕ × ℕ) Fault) (o : Result Term Fault) (f : Fault) →
+    Walk m n s run p each rest i t → PairsOf m n p → PairRead p pair (j * b) q → Offers (pair_offer m n s x y) o → length pair ≡ each → j ≡ i → b ≡ bytes_of_pair p → rest ≡ pair ++ rest' → q ≡ Ok (x, y) → o ≡ Err f → ⊥
+walk_stands m n s run p each rest pair rest' i j b x y t q o f walk of read offers long turn size-is is good term =
+    let here : IsPair p run i (j * b) pair = rw (turn, size-is) (walk_pair m n s run p each rest pair rest' i t walk is long) in
+    let both = pair_fits m n p run i (j * b) pair x y of here (rw good at read) in
+    product_stands m n s run i x y f both (rw term at offers)
+
+pub walk_all : (m n : Meaning) (s : ℤ) (run : List ℕ) (p : Pairs) (each : ℕ) (rest : List ℕ) (i : ℕ) (b : Batch) → Walk m n s run p each rest i b.sum → PairsOf m n p → length rest < each → b.count ≡ length run / bytes_of_pair p → Gathers (whole_offer m n s run) (Ok b)
+walk_all m n s run p each rest i b walk of short count =
+    let all = ap (λ k. length run / k) (bytes_of_lem m n p of) in
+    let end : i ≡ pairs m n run = sym (walk_end m n s run p each rest i b.sum walk short) ∙ all in
+    all_gathered m n s run b (subst (λ j. SoFar m n s run j b.sum) end walk.far) (count ∙ all)
+

@@ -1,7 +1,6 @@
 // Pairs of codes in a run of bytes, x code then y code.
-ghost use Rattle.std.specs.Prelude.{◌≡◌, ℕ, ◌+◌, ◌*◌, ◌^◌, ◌<◌, List, length};
-ghost use Rattle.formats.specs.Meaning.{Meaning};
-ghost use Rattle.registers.specs.PairReads.{bytes_of_pair, PairsOf, IsPair, PairRead};
+ghost use Rattle.std.specs.Prelude.{◌≡◌, ◌+◌, ◌*◌, ◌^◌, ◌<◌, length};
+ghost use Rattle.registers.specs.PairReads.{bytes_of_pair, PairsOf, PairRead};
 
 use crate::codes::Codes;
 use formats::fault::Fault;
@@ -33,7 +32,7 @@ impl Pairs {
     // The codes of a pair's bytes, which lie at a place; refused (2) at the first of them that is 2^K or more.
     pub(crate) fn read(&self, pair: &[u8], place: usize) -> Result<(u16, u16), Fault>
         requires { (length pair.now ≡ bytes_of_pair self.now) × (place + bytes_of_pair self.now < 2 ^ 64) }
-        ensures { (m n : Meaning) (run : List ℕ) (i : ℕ) → PairsOf m n self.now → IsPair self.now run i place pair.now → PairRead m n run i result }
+        ensures { PairRead self.now pair.now place result }
     {
         let (x, y) = pair.split_at(self.x.bytes());
         let x = self.x.read(x, place)?;

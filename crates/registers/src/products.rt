@@ -31,6 +31,7 @@ pub(crate) fn products<F: Format, G: Format>(
 }
 
 // The same of whole pairs, where the scale is in range.
+#[tactic(auto, using(crate::proofs::RunLaws::walk_stands, crate::proofs::RunLaws::walk_all))]
 fn gathered<F: Format, G: Format>(
     x_format: &F,
     y_format: &G,
