@@ -1,5 +1,5 @@
 -- The terms of a run of pairs, pair after pair.
-use Rattle.std.proofs.Common.{rules, ◌⊎◌, inl, inr, ◌≡◌, ℕ, zero, suc, ◌+◌, ◌-◌, ◌*◌, ◌/◌, ◌^◌, ◌<◌, ◌≤◌, Bool, true, List, [], ◌∷◌, ◌++◌, length, ℤ, pos, Result, IsErrAnd, Ok, Err, sym, refl, ap, ◌∙◌, subst, ap₂, mul-le-mul_right, add-mul, mul-le-mul, div-mul-le_self, add-one, add-zero, add_assoc, mul-le-mul_left, take, drop, slice_index, false, arith}
+use Rattle.std.proofs.Common.{rules, inl, inr, ◌≡◌, ℕ, zero, suc, ◌+◌, ◌-◌, ◌*◌, ◌/◌, ◌^◌, ◌<◌, ◌≤◌, Bool, true, List, [], ◌∷◌, ◌++◌, length, ℤ, pos, Result, IsErrAnd, Ok, Err, sym, refl, ap, ◌∙◌, subst, ap₂, add-mul, add-one, add-zero, add_assoc, mul-le-mul_left, take, drop, slice_index, false, arith}
 use Rattle.std.proofs.Math.Nat.{div-eq_of_lt-le, zero-mul}
 use Rattle.std.proofs.lemmas.Bool.{lt-ltb}
 use Rattle.std.proofs.lemmas.Result.{err_from_is_err_and}
@@ -120,8 +120,8 @@ pair_does_not m n p run i place bytes f of is (inr bad) =
 pub finite_grows : (old new : Sum) (n : ℕ) (negative : Bool) → value new ≡ plus (value old) (finite (signed negative n)) → n < 2 ^ 191 → size new ≤ size old + 2 ^ 191
 finite_grows old new n negative is small = omega (arith, term_size old new n negative is)
 
-pub walk_start : (m n : Meaning) (s : ℤ) (run : List ℕ) (p : Pairs) (each : ℕ) (rest : List ℕ) (i : ℕ) (t : Sum) → each ≡ bytes_of_pair p → rest ≡ run → i ≡ 0 → value t ≡ finite (pos 0) → Walk m n s run p each rest i t
-walk_start m n s run p each rest i t is-each is start-is e =
+pub walk_start : {m n : Meaning} {s : ℤ} {run : List ℕ} {p : Pairs} {each : ℕ} {rest : List ℕ} {i : ℕ} {t : Sum} → each ≡ bytes_of_pair p → rest ≡ run → i ≡ 0 → value t ≡ finite (pos 0) → Walk m n s run p each rest i t
+walk_start {m} {n} {s} {run} {p} {each} {rest} {i} {t} is-each is start-is e =
     let start : i * each ≡ 0 = ap (λ j. j * each) start-is ∙ zero-mul each in
     record {
       size_is = is-each;
@@ -157,13 +157,6 @@ pub walk_end : (m n : Meaning) (s : ℤ) (run : List ℕ) (p : Pairs) (each : �
 walk_end m n s run p each rest i t walk short =
     subst (λ b. length run / b ≡ i) walk.size_is
     (div-eq_of_lt-le each (omega (arith, walk.left)) (omega (arith, walk.left, short, add-mul i 1 each)))
-
--- room for the next term
-pub room : (i long size : ℕ) (p : Pairs) → size ≤ i * 2 ^ 191 → (i + 1) * bytes_of_pair p ≤ long → long < 2 ^ 64 → size + 2 ^ 191 ≤ 2 ^ 255
-room i long each p bound inside short =
-    let two : 2 ≤ bytes_of_pair p = grind arith in
-    let le : (i + 1) * 2 ≤ (i + 1) * bytes_of_pair p = mul-le-mul_left (i + 1) two in
-    omega (arith, le, inside)
 
 -- the first code that is too large stays the first
 stays : (m n : Meaning) (run : List ℕ) (i more place : ℕ) → bad_code m n run i ≡ at place → bad_code m n run (more + i) ≡ at place
@@ -201,26 +194,26 @@ all_gathered m n s run b far count =
     (count ∙ sym (pairs_count m n s run (pairs m n run)), far.summed)
 
 -- the refusal of the pair that comes next is the run's
-pub walk_refused : (m n : Meaning) (s : ℤ) (run : List ℕ) (p : Pairs) (each : ℕ) (rest pair rest' : List ℕ) (i j b : ℕ) (t : Sum) (q : Result (ℕ × ℕ) Fault) (f : Fault) (r : Result Batch Fault) →
+pub walk_refused : {m n : Meaning} {s : ℤ} {run : List ℕ} {p : Pairs} {each : ℕ} {rest : List ℕ} (pair rest' : List ℕ) {i j b : ℕ} {t : Sum} {q : Result (ℕ × ℕ) Fault} {f : Fault} (r : Result Batch Fault) →
     Walk m n s run p each rest i t → PairsOf m n p → PairRead p pair (j * b) q → length pair ≡ each → j ≡ i → b ≡ bytes_of_pair p → rest ≡ pair ++ rest' → q ≡ Err f → IsErrAnd r (λ g. g ≡ f) → Gathers (whole_offer m n s run) r
-walk_refused m n s run p each rest pair rest' i j b t q f r walk of read long turn size-is is bad err =
+walk_refused {m} {n} {s} {run} {p} {each} {rest} pair rest' {i} {j} {b} {t} {q} {f} r walk of read long turn size-is is bad err =
     let (same, failed, is-f) = err_from_is_err_and {Q = λ g. g ≡ f} r err in
     let here : IsPair p run i (j * b) pair = rw (turn, size-is) (walk_pair m n s run p each rest pair rest' i t walk is long) in
     rw (failed, is-f) (pair_refused m n s run p i f of walk.far.clean (walk_inside m n s run p each rest pair rest' i t walk is long) (pair_does_not m n p run i (j * b) pair f of here (rw bad at read)))
 
 -- the term of the pair that comes next goes to the sum
-pub walk_on : (m n : Meaning) (s : ℤ) (run : List ℕ) (p : Pairs) (each each' : ℕ) (rest pair rest' : List ℕ) (i i' j b x y : ℕ) (t u : Sum) (q : Result (ℕ × ℕ) Fault) (o : Result Term Fault) (v : Term) →
+pub walk_on : {m n : Meaning} {s : ℤ} {run : List ℕ} {p : Pairs} {each each' : ℕ} {rest : List ℕ} (pair : List ℕ) {rest' : List ℕ} {i i' j b x y : ℕ} {t u : Sum} {q : Result (ℕ × ℕ) Fault} {o : Result Term Fault} {v : Term} →
     Walk m n s run p each rest i t → PairsOf m n p → PairRead p pair (j * b) q → Offers (pair_offer m n s x y) o → length pair ≡ each → j ≡ i → b ≡ bytes_of_pair p → rest ≡ pair ++ rest' → each' ≡ each → i' ≡ i + 1 → q ≡ Ok (x, y) → o ≡ Ok v → value u ≡ plus (value t) (term_value v) → size u ≤ size t + 2 ^ 191 → Walk m n s run p each' rest' i' u
-walk_on m n s run p each each' rest pair rest' i i' j b x y t u q o v walk of read offers long turn size-is is same next good term sum bound =
+walk_on {m} {n} {s} {run} {p} {each} {each'} {rest} pair {rest'} {i} {i'} {j} {b} {x} {y} {t} {u} {q} {o} {v} walk of read offers long turn size-is is same next good term sum bound =
     let here : IsPair p run i (j * b) pair = rw (turn, size-is) (walk_pair m n s run p each rest pair rest' i t walk is long) in
     let both = pair_fits m n p run i (j * b) pair x y of here (rw good at read) in
     let far = so_far_more m n s run i x y (term_value v) t u walk.far both (product_term m n s run i x y v both (rw term at offers)) sum bound in
     rw (same, next) (walk_next m n s run p each rest pair rest' i t u walk is long far)
 
-pub walk_on_finite : (m n : Meaning) (s : ℤ) (run : List ℕ) (p : Pairs) (each each' : ℕ) (rest pair rest' : List ℕ) (i i' j b x y : ℕ) (t u : Sum) (q : Result (ℕ × ℕ) Fault) (o : Result Term Fault) (v : Term) (w : Scaled) →
+pub walk_on_finite : {m n : Meaning} {s : ℤ} {run : List ℕ} {p : Pairs} {each each' : ℕ} {rest : List ℕ} (pair : List ℕ) {rest' : List ℕ} {i i' j b x y : ℕ} {t u : Sum} {q : Result (ℕ × ℕ) Fault} {o : Result Term Fault} {v : Term} {w : Scaled} →
     Walk m n s run p each rest i t → PairsOf m n p → PairRead p pair (j * b) q → Offers (pair_offer m n s x y) o → length pair ≡ each → j ≡ i → b ≡ bytes_of_pair p → rest ≡ pair ++ rest' → each' ≡ each → i' ≡ i + 1 → q ≡ Ok (x, y) → o ≡ Ok v → v ≡ Finite w → value u ≡ plus (value t) (finite (signed w.negative (w.digits * 2 ^ w.place))) → Walk m n s run p each' rest' i' u
-walk_on_finite m n s run p each each' rest pair rest' i i' j b x y t u q o v w walk of read offers long turn size-is is same next good term which sum =
-    walk_on m n s run p each each' rest pair rest' i i' j b x y t u q o v walk of read offers long turn size-is is same next good term (rw which sum) (finite_grows t u _ _ sum w.small)
+walk_on_finite {m} {n} {s} {run} {p} {each} {each'} {rest} pair {rest'} {i} {i'} {j} {b} {x} {y} {t} {u} {q} {o} {v} {w} walk of read offers long turn size-is is same next good term which sum =
+    walk_on pair walk of read offers long turn size-is is same next good term (rw which sum) (finite_grows t u _ _ sum w.small)
 
 -- which is not refused
 pub walk_stands : (m n : Meaning) (s : ℤ) (run : List ℕ) (p : Pairs) (each : ℕ) (rest pair rest' : List ℕ) (i j b x y : ℕ) (t : Sum) (q : Result (ℕ × ℕ) Fault) (o : Result Term Fault) (f : Fault) →
@@ -235,4 +228,3 @@ walk_all m n s run p each rest i b walk of short count =
     let all = ap (λ k. length run / k) (bytes_of_lem m n p of) in
     let end : i ≡ pairs m n run = sym (walk_end m n s run p each rest i b.sum walk short) ∙ all in
     all_gathered m n s run b (subst (λ j. SoFar m n s run j b.sum) end walk.far) (count ∙ all)
-
