@@ -1,5 +1,5 @@
 -- The terms of a run of pairs, pair after pair.
-use Rattle.std.proofs.Common.{rules, inl, inr, ◌≡◌, ℕ, zero, suc, ◌+◌, ◌-◌, ◌*◌, ◌/◌, ◌^◌, ◌<◌, ◌≤◌, Bool, true, List, [], ◌∷◌, ◌++◌, length, ℤ, pos, Result, IsErrAnd, Ok, Err, sym, refl, ap, ◌∙◌, subst, ap₂, add-mul, add-one, add-zero, add_assoc, mul-le-mul_left, take, drop, slice_index, false, arith}
+use Rattle.std.proofs.Common.{rules, inl, inr, ◌≡◌, ℕ, zero, suc, ◌+◌, ◌-◌, ◌*◌, ◌/◌, ◌^◌, ◌<◌, ◌≤◌, Bool, true, List, [], ◌∷◌, ◌++◌, length, ℤ, pos, Result, IsErrAnd, Ok, Err, sym, refl, ap, ◌∙◌, subst, ap₂, add-mul, add-one, add-zero, add_assoc, take, drop, slice_index, false, arith}
 use Rattle.std.proofs.Math.Nat.{div-eq_of_lt-le, zero-mul}
 use Rattle.std.proofs.lemmas.Bool.{lt-ltb}
 use Rattle.std.proofs.lemmas.Result.{err_from_is_err_and}
@@ -20,7 +20,7 @@ use Rattle.terms.specs.declared.term.Term.{Term}
 use Rattle.terms.specs.declared.term.Term.TheVariants.{Finite}
 use Rattle.terms.proofs.SumLaws.{exact_sum_none, exact_sum_last}
 use Rattle.registers.specs.Batches.{Gathers}
-use Rattle.registers.specs.PairReads.{PairsOf, bytes_of_pair, IsPair, BothFit, OneDoesNot, PairRead, whole_offer}
+use Rattle.registers.specs.PairReads.{PairsOf, bytes_of_pair, IsPair, BothFit, OneDoesNot, x_in, y_in, PairRead, whole_offer}
 use Rattle.registers.specs.Runs.{code_at, bytes_of, wide_at, x_code, y_code, pair_bytes, term_at, pair_terms, none, at, or_else, bad_pair, bad_code, unless_bad, pairs}
 use Rattle.registers.specs.declared.batch.Batch.{Batch}
 use Rattle.registers.specs.declared.pairs.Pairs.{Pairs}
@@ -94,8 +94,7 @@ code_after false run place b n le =
 
 -- the codes of a pair's bytes are those of the run
 pub pair_codes : (m n : Meaning) (p : Pairs) (run : List ℕ) (i place : ℕ) (bytes : List ℕ) → PairsOf m n p → IsPair p run i place bytes →
-    (code_at (wide_at p.x.width) (take (bytes_of (wide_at p.x.width)) bytes) 0 ≡ x_code m n run i)
-    × (code_at (wide_at p.y.width) (drop (bytes_of (wide_at p.x.width)) bytes) 0 ≡ y_code m n run i)
+    (x_in p bytes ≡ x_code m n run i) × (y_in p bytes ≡ y_code m n run i)
 pair_codes m n p run i place bytes of is =
     let w = wide_at p.x.width in
     let v = wide_at p.y.width in

@@ -37,8 +37,8 @@ impl Codes {
     {
         let code = match *bytes {
             [low, high] => u16::from_le_bytes([low, high]),
-            [low, ..] => u16::from(low),
-            [] => 0,
+            [code] => u16::from(code),
+            _ => unreachable!(),
         };
         if u32::from(code) >= 1 << self.width {
             return Err(Fault::CodeTooLarge(place));
