@@ -1,5 +1,5 @@
 -- The laws of the registers that histories lead to.
-use Rattle.std.proofs.Common.{◌≡◌, ℕ, ◌*◌, ◌^◌, ◌≤◌, Decides, true, false, not, List, [], nat_abs, sym, refl, ap, ◌∙◌, subst}
+use Rattle.std.proofs.Common.{◌≡◌, ℕ, ◌*◌, ◌^◌, ◌≤◌, Decides, false, not, List, [], nat_abs, sym, refl, ap, ◌∙◌, subst}
 use lib.Signed.{non_neg}
 use Rattle.formats.specs.Meaning.{Meaning, Lawful}
 use Rattle.formats.specs.Value.{Value, finite, less}

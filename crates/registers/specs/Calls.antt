@@ -1,5 +1,5 @@
 -- What each call on a register answers and leaves, by the count and the value of the sum.
-use Rattle.std.specs.Prelude.{◌≡◌, ℕ, ◌+◌, ◌*◌, ◌^◌, ◌<◌, ◌≤◌, List, length, pos, Ok, Err, Result}
+use Rattle.std.specs.Prelude.{◌≡◌, ℕ, ◌+◌, ◌<◌, ◌≤◌, List, length, pos, Ok, Err, Result}
 use Rattle.formats.specs.Meaning.{Meaning}
 use Rattle.formats.specs.Refusals.{Refuses}
 use Rattle.formats.specs.Value.{Value, finite}

@@ -1,5 +1,5 @@
 -- What holds of every register that a history leads to.
-use Rattle.std.specs.Prelude.{◌≡◌, ℕ, ◌*◌, ◌^◌, ◌<◌, ◌≤◌, Bool, true, false, List, [], ◌∷◌, length, ℤ, unsigned_abs}
+use Rattle.std.specs.Prelude.{◌≡◌, ℕ, ◌*◌, ◌^◌, ◌<◌, ◌≤◌, true, false, List, [], ◌∷◌, length, ℤ, unsigned_abs}
 use Rattle.formats.specs.Meaning.{Meaning, Lawful}
 use Rattle.formats.specs.Value.{Value, finite, is_nan, less}
 use Rattle.rounding.specs.Laws.{distance}

@@ -21,10 +21,10 @@ bytes_of w = cond w 2 1
 abbrev pub code_at : Bool → List ℕ → ℕ → ℕ
 code_at w run place = cond w (slice_index run place + 256 * slice_index run (place + 1)) (slice_index run place)
 
--- the code at a place, or refusal 2 there if it is 2^K or more
-abbrev pub CodeRead : (width : ℕ) → List ℕ → (place : ℕ) → Result ℕ Fault → Type 0
-CodeRead width run place (Ok c) = (c ≡ code_at (wide_at width) run place) × (c < 2 ^ width)
-CodeRead width run place (Err f) = Refuses 2 place f × (2 ^ width ≤ code_at (wide_at width) run place)
+-- a code, or refusal 2 at its place if it is 2^K or more
+abbrev pub CodeRead : (width code place : ℕ) → Result ℕ Fault → Type 0
+CodeRead width code place (Ok c) = (c ≡ code) × (c < 2 ^ width)
+CodeRead width code place (Err f) = Refuses 2 place f × (2 ^ width ≤ code)
 
 -- the codes of a format
 abbrev pub CodesOf : Meaning → Codes → Type 0

@@ -30,26 +30,19 @@ impl Codes {
         if self.width > 8 { 2 } else { 1 }
     }
 
-    // The code at a place; refused (2) there if it is 2^K or more.
-    pub(crate) fn at(&self, run: &[u8], place: usize) -> Result<u16, Fault>
-        requires { place + bytes_of (wide_at self.now.width) ≤ length run.now }
-        ensures { CodeRead self.now.width run.now place result }
+    // The code of its bytes, which lie at a place; refused (2) there if it is 2^K or more.
+    pub(crate) fn read(&self, bytes: &[u8], place: usize) -> Result<u16, Fault>
+        requires { length bytes.now ≡ bytes_of (wide_at self.now.width) }
+        ensures { CodeRead self.now.width (code_at (wide_at self.now.width) bytes.now 0) place result }
     {
-        let code = self.joined(run, place);
+        let code = match *bytes {
+            [low, high] => u16::from_le_bytes([low, high]),
+            [code] => u16::from(code),
+            _ => unreachable!(),
+        };
         if u32::from(code) >= 1 << self.width {
             return Err(Fault::CodeTooLarge(place));
         }
         Ok(code)
-    }
-
-    fn joined(&self, run: &[u8], place: usize) -> u16
-        requires { place + bytes_of (wide_at self.now.width) ≤ length run.now }
-        ensures { result ≡ code_at (wide_at self.now.width) run.now place }
-    {
-        if self.width > 8 {
-            u16::from_le_bytes([run[place], run[place + 1]])
-        } else {
-            u16::from(run[place])
-        }
     }
 }

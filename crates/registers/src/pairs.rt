@@ -1,6 +1,5 @@
 // Pairs of codes in a run of bytes, x code then y code.
-ghost use Rattle.std.specs.Prelude.{◌≡◌, ◌+◌, ◌*◌, ◌^◌, ◌<◌, ◌≤◌, length};
-ghost use Rattle.formats.specs.Meaning.{Meaning};
+ghost use Rattle.std.specs.Prelude.{◌≡◌, ◌+◌, ◌*◌, ◌^◌, ◌<◌, length};
 ghost use Rattle.registers.specs.PairReads.{bytes_of_pair, PairsOf, PairRead};
 
 use crate::codes::Codes;
@@ -30,14 +29,14 @@ impl Pairs {
         self.x.bytes() + self.y.bytes()
     }
 
-    // The codes of the i-th pair; refused (2) at the first of them that is 2^K or more.
-    pub(crate) fn at(&self, run: &[u8], i: usize) -> Result<(u16, u16), Fault>
-        requires { i * bytes_of_pair self.now + bytes_of_pair self.now ≤ length run.now }
-        ensures { (m n : Meaning) → PairsOf m n self.now → PairRead m n run.now i result }
+    // The codes of a pair's bytes, which lie at a place; refused (2) at the first of them that is 2^K or more.
+    pub(crate) fn read(&self, pair: &[u8], place: usize) -> Result<(u16, u16), Fault>
+        requires { (length pair.now ≡ bytes_of_pair self.now) × (place + bytes_of_pair self.now < 2 ^ 64) }
+        ensures { PairRead self.now pair.now place result }
     {
-        let place = i * self.bytes();
-        let x = self.x.at(run, place)?;
-        let y = self.y.at(run, place + self.x.bytes())?;
+        let (x, y) = pair.split_at(self.x.bytes());
+        let x = self.x.read(x, place)?;
+        let y = self.y.read(y, place + self.x.bytes())?;
         Ok((x, y))
     }
 }

@@ -31,6 +31,7 @@ pub(crate) fn products<F: Format, G: Format>(
 }
 
 // The same of whole pairs, where the scale is in range.
+#[tactic(auto, using(crate::proofs::RunLaws::walk_stands, crate::proofs::RunLaws::walk_all))]
 fn gathered<F: Format, G: Format>(
     x_format: &F,
     y_format: &G,
@@ -41,10 +42,9 @@ fn gathered<F: Format, G: Format>(
     requires { PairsOf (F.Format.meaning x_format.now) (G.Format.meaning y_format.now) pairs }
     ensures { Gathers (whole_offer (F.Format.meaning x_format.now) (G.Format.meaning y_format.now) scale.power run.now) result }
 {
-    let count = run.len() / pairs.bytes();
     let mut sum = Sum::zero();
-    for i in 0..count {
-        let (x, y) = pairs.at(run, i)?;
+    for (i, pair) in run.chunks_exact(pairs.bytes()).enumerate() {
+        let (x, y) = pairs.read(pair, i * pairs.bytes())?;
         let term = Term::pair(x_format, y_format, scale, x, y)?;
         // Mostly the term is finite, and then only its three parts go to the sum.
         match term {
@@ -52,5 +52,8 @@ fn gathered<F: Format, G: Format>(
             _ => term.add_to(&mut sum),
         }
     }
-    Ok(Batch { count, sum })
+    Ok(Batch {
+        count: run.len() / pairs.bytes(),
+        sum,
+    })
 }
