@@ -6,15 +6,18 @@ use Rattle.std.proofs.lemmas.Result.{err_from_is_err_and}
 use Rattle.std.proofs.lemmas.Nat.{le-div}
 use Rattle.std.proofs.lemmas.List.{get_or-drop, get_or-take, take_at, drop_at, drop-drop, length-append}
 use Rattle.formats.specs.Meaning.{Meaning}
-use Rattle.formats.specs.Value.{Value, finite}
+use Rattle.formats.specs.Value.{Value, finite, signed}
 use Rattle.formats.specs.declared.fault.Fault.{Fault}
 use Rattle.sums.specs.Exact.{plus}
 use Rattle.sums.specs.Sums.{value, size_of, size}
 use Rattle.sums.specs.declared.sum.Sum.{Sum}
+use Rattle.sums.proofs.SizeBound.{term_size}
 use Rattle.terms.specs.Offers.{terms, pair_term, pair_offer, Offers}
 use Rattle.terms.specs.Readings.{term_value}
 use Rattle.terms.specs.Terms.{exact_sum}
+use Rattle.terms.specs.declared.scaled.Scaled.{Scaled}
 use Rattle.terms.specs.declared.term.Term.{Term}
+use Rattle.terms.specs.declared.term.Term.TheVariants.{Finite}
 use Rattle.terms.proofs.SumLaws.{exact_sum_none, exact_sum_last}
 use Rattle.registers.specs.Batches.{Gathers}
 use Rattle.registers.specs.PairReads.{PairsOf, bytes_of_pair, IsPair, BothFit, OneDoesNot, x_in, y_in, PairRead, whole_offer}
@@ -112,6 +115,10 @@ pair_does_not m n p run i place bytes f of is (inr bad) =
     let codes = pair_codes m n p run i place bytes of is in
     search (rules, codes)
 
+-- a finite term below 2^191 raises the size by no more
+pub finite_grows : (old new : Sum) (n : ℕ) (negative : Bool) → value new ≡ plus (value old) (finite (signed negative n)) → n < 2 ^ 191 → size new ≤ size old + 2 ^ 191
+finite_grows old new n negative is small = omega (arith, term_size old new n negative is)
+
 pub walk_start : {m n : Meaning} {s : ℤ} {run : List ℕ} {p : Pairs} {each : ℕ} {rest : List ℕ} {i : ℕ} {t : Sum} → each ≡ bytes_of_pair p → rest ≡ run → i ≡ 0 → value t ≡ finite (pos 0) → Walk m n s run p each rest i t
 walk_start {m} {n} {s} {run} {p} {each} {rest} {i} {t} is-each is start-is e =
     let start : i * each ≡ 0 = ap (λ j. j * each) start-is ∙ zero-mul each in
@@ -201,6 +208,11 @@ walk_on {m} {n} {s} {run} {p} {each} {each'} {rest} pair {rest'} {i} {i'} {j} {b
     let both = pair_fits m n p run i (j * b) pair x y of here (rw good at read) in
     let far = so_far_more m n s run i x y (term_value v) t u walk.far both (product_term m n s run i x y v both (rw term at offers)) sum bound in
     rw (same, next) (walk_next m n s run p each rest pair rest' i t u walk is long far)
+
+pub walk_on_finite : {m n : Meaning} {s : ℤ} {run : List ℕ} {p : Pairs} {each each' : ℕ} {rest : List ℕ} (pair : List ℕ) {rest' : List ℕ} {i i' j b x y : ℕ} {t u : Sum} {q : Result (ℕ × ℕ) Fault} {o : Result Term Fault} {v : Term} {w : Scaled} →
+    Walk m n s run p each rest i t → PairsOf m n p → PairRead p pair (j * b) q → Offers (pair_offer m n s x y) o → length pair ≡ each → j ≡ i → b ≡ bytes_of_pair p → rest ≡ pair ++ rest' → each' ≡ each → i' ≡ i + 1 → q ≡ Ok (x, y) → o ≡ Ok v → v ≡ Finite w → value u ≡ plus (value t) (finite (signed w.negative (w.digits * 2 ^ w.place))) → Walk m n s run p each' rest' i' u
+walk_on_finite {m} {n} {s} {run} {p} {each} {each'} {rest} pair {rest'} {i} {i'} {j} {b} {x} {y} {t} {u} {q} {o} {v} {w} walk of read offers long turn size-is is same next good term which sum =
+    walk_on pair walk of read offers long turn size-is is same next good term (rw which sum) (finite_grows t u _ _ sum w.small)
 
 -- which is not refused
 pub walk_stands : (m n : Meaning) (s : ℤ) (run : List ℕ) (p : Pairs) (each : ℕ) (rest pair rest' : List ℕ) (i j b x y : ℕ) (t : Sum) (q : Result (ℕ × ℕ) Fault) (o : Result Term Fault) (f : Fault) →

@@ -46,7 +46,11 @@ fn gathered<F: Format, G: Format>(
     for (i, pair) in run.chunks_exact(pairs.bytes()).enumerate() {
         let (x, y) = pairs.read(pair, i * pairs.bytes())?;
         let term = Term::pair(x_format, y_format, scale, x, y)?;
-        term.add_to(&mut sum);
+        // Mostly the term is finite, and then only its three parts go to the sum.
+        match term {
+            Term::Finite(term) => sum.add_term(term.negative, term.digits, term.place),
+            _ => term.add_to(&mut sum),
+        }
     }
     Ok(Batch {
         count: run.len() / pairs.bytes(),
