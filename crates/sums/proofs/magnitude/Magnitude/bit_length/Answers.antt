@@ -1,6 +1,5 @@
-use Rattle.std.proofs.Common.{◌≡◌, sym, arith}
+use Rattle.std.proofs.Common.{sym, arith}
 use Rattle.layout.proofs.DigitLaws.{digits_zero}
-use Rattle.sums.proofs.WordLaws.{number_all}
 use Rattle.sums.proofs.CutLaws.{top_digits, no_digits}
 use Rattle.sums.proofs.magnitude.Magnitude.bit_length.Goals as goal
 use Rattle.sums.proofs.magnitude.Magnitude.bit_length.Goals.{then-word-ne0, else-word-ne0}
@@ -16,8 +15,3 @@ loop-i-preserved c =
       | then-word-ne0 w ↦ rw w.bits-is (top_digits ws i c.args.self.now.eight c.loop-i-test.true w.if-word-ne0.true, omega arith)
       | else-word-ne0 w ↦ rw (w.bits-is, no_digits ws i w.if-word-ne0.false) c.loop-i.invariant
     ]
-
-pub returns : goal.returns
-returns c =
-    let all : c.loop-i.i ≡ 8 = omega (arith, c.loop-i-test.false, c.loop-i.auto.i-end) in
-    rw (number_all c.args.self.now.words c.loop-i.i (omega (arith, c.args.self.now.eight.long))) at c.loop-i.invariant
