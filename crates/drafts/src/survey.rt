@@ -23,6 +23,7 @@ pub(crate) struct Survey {
 }
 
 impl Survey {
+    // A match: a table by name would need a search and an answer where it finds nothing.
     pub(crate) fn extreme(&self, name: &str) -> Option<Dyadic> {
         match name {
             "minSubnormal" => self.subnormal.least,

@@ -33,6 +33,7 @@ impl TryFrom<u8> for AnyFormat {
     }
 }
 
+// Three matches: one function that hands out the format as a `dyn` value is not allowed here.
 impl Format for AnyFormat {
     ghost meaning = { meaning_of };
 

@@ -21,7 +21,8 @@ fn main(rt: HostRuntime) -> anyhow::Result<()> {
     run(&rt)
 }
 
-// What the arguments name, or all where they name none.
+// What the arguments name, or all where they name none. The words are counted, since the formats of a
+// dot depend on their number.
 fn run(rt: &HostRuntime) -> anyhow::Result<()> {
     let mut words = 0u8;
     for word in env::args(rt)?.skip(1) {

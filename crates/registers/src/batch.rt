@@ -22,7 +22,7 @@ pub(crate) trait Terms {
     ghost bounded: { (x : Self) → size_of (total x) ≤ number x * 2 ^ 191 };
 }
 
-// How many terms, and their exact sum.
+// How many terms, and their exact sum. It is no `Register`: a run may have more terms than one counts.
 #[derive(Clone, Copy)]
 pub(crate) struct Batch {
     pub(crate) count: usize,

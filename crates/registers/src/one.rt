@@ -1,4 +1,4 @@
-// A term goes into a register alone, and a register's terms go into another together.
+// A term goes into a register alone.
 ghost use Rattle.std.specs.Prelude.{◌≡◌};
 ghost use Rattle.sums.specs.Sums.{value};
 ghost use Rattle.terms.specs.Readings.{term_value};

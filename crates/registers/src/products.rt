@@ -12,6 +12,7 @@ use sums::sum::Sum;
 use terms::scale::Scale;
 use terms::term::Term;
 
+// The formats and the scale stay apart, as callers have them: a struct would be made here alone.
 // X × Y × 2^scale of each pair of codes, x code then y code. Refused: a scale outside -32 to 31 (4),
 // bytes that are not whole pairs (6), the first code of 2^K or more (2, at its place).
 pub(crate) fn products<F: Format, G: Format>(
@@ -44,7 +45,8 @@ fn gathered<F: Format, G: Format>(
 {
     let mut sum = Sum::zero();
     for (i, pair) in run.chunks_exact(pairs.bytes()).enumerate() {
-        let (x, y) = pairs.read(pair, i * pairs.bytes())?;
+        let codes = pairs.read(pair, i * pairs.bytes());
+        let (x, y) = codes?;
         let term = Term::pair(x_format, y_format, scale, x, y)?;
         // Mostly the term is finite, and then only its three parts go to the sum.
         match term {

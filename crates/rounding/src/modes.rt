@@ -3,7 +3,7 @@ ghost use Rattle.rounding.specs.Rules.{ByModeByte};
 
 use crate::answers::Saturation;
 
-// A byte that is no mode's.
+// A byte that is no mode's. No rule's error, so that `?` may tell them apart.
 #[derive(Clone, Copy, PartialEq, Eq)]
 pub struct NoSuchMode;
 

@@ -19,6 +19,7 @@ use rounding::rules::AnyRule;
 
 #[derive(Clone, Copy)]
 pub struct Bench {
+    // Four, by the format of a sheet.
     registers: [Register; 4],
 }
 

@@ -29,7 +29,7 @@ pub struct Cut {
 }
 
 impl Magnitude {
-    // How many binary digits the number has.
+    // How many binary digits the number has. `rposition` was tried, and what it answers was not proved.
     pub fn bit_length(&self) -> u32
         ensures { (result ≡ digits (number self.now.words)) × (result ≤ 256) }
     {

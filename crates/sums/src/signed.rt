@@ -8,6 +8,7 @@ ghost use Rattle.sums.specs.Words.{Eight, number, twos_complement};
 use crate::magnitude::Magnitude;
 use crate::words::{move_all, move_at};
 
+// No `Magnitude`, whose words say a number without a sign.
 #[derive(Clone, Copy, PartialEq, Eq)]
 pub struct Signed {
     pub words: [u32; 8],

@@ -41,7 +41,8 @@ impl Sum {
         };
     }
 
-    // Adds ±digits × 2^place units.
+    // Adds ±digits × 2^place units. Three numbers, since a type of them would ask for a bound that a sum
+    // does not need, as `Scaled` of the terms does.
     pub fn add_term(&mut self, negative: bool, digits: u32, place: u8)
         requires short { (digits < 2 ^ 24) × (place ≤ 189) }
         requires fits { size self.old + digits * 2 ^ place < 2 ^ 255 }

@@ -21,6 +21,7 @@ pub(crate) fn move_all(words: &mut [u32; 8], down: bool, other: &[u32; 8])
     ensures { Moved down words.old (number other.now) words.new }
 {
     let mut passed = 0;
+    // No zip with `words.iter_mut()`: after it a proof knows nothing of the words.
     for (i, more) in other.iter().enumerate() {
         let (word, next) = moved(words[i], down, u64::from(*more) + passed);
         words[i] = word;

@@ -49,6 +49,7 @@ fn chosen(rt: &HostRuntime) -> anyhow::Result<Vec<AnyFormat>> {
         formats.push(format)?;
     }
     if formats.is_empty() {
+        // A for, since `push` may fail.
         for byte in 1..=u8::MAX {
             if let Ok(format) = AnyFormat::try_from(byte) {
                 formats.push(format)?;

@@ -14,6 +14,7 @@ pub(crate) struct Small {
     ghost small: { SmallValue value } by { Prim.hlevel props },
 }
 
+// What a code reads as. No `Term`, which may be any product: a factor is small by its type.
 #[derive(Clone, Copy)]
 pub(crate) enum Factor {
     Nan,

@@ -91,7 +91,7 @@ fn scaled(small: Small) -> Scaled
     Scaled {
         negative: value.negative,
         digits: u32::from(value.significand),
-        place: (i16::from(value.exponent) + 96) as u8,
+        place: value.exponent.abs_diff(-96),
     }
 }
 
