@@ -48,6 +48,7 @@ impl Magnitude {
         requires fits { number self.now.words < 2 ^ (12 + place) }
         ensures { CutAt (number self.now.words) place result }
     {
+        let place = place as u8;
         Cut {
             digits: self.digits_from(place),
             remainder: self.left_below(place),
@@ -56,8 +57,8 @@ impl Magnitude {
 
     // What is left below a bit.
     #[tactic(auto, using(crate::proofs::CutLaws::left_is))]
-    fn left_below(&self, place: u32) -> Option<Remainder>
-        requires { (0 < place) × (place < 256) }
+    fn left_below(&self, place: u8) -> Option<Remainder>
+        requires { 0 < place }
         ensures { result ≡ left_below (number self.now.words) place }
     {
         match (self.bit(place - 1), self.any_below(place - 1)) {
@@ -68,31 +69,28 @@ impl Magnitude {
         }
     }
 
-    fn digits_from(&self, place: u32) -> u32
-        requires place { place < 256 }
-        requires fits { number self.now.words < 2 ^ (12 + place) }
+    fn digits_from(&self, place: u8) -> u32
+        requires { number self.now.words < 2 ^ (12 + place) }
         ensures { result ≡ number self.now.words / 2 ^ place }
     {
-        let at = (place / 32) as usize;
+        let at = usize::from(place / 32);
         let low = self.word(at);
         let high = self.word(at + 1);
         (((high << 32) + low) >> (place % 32)) as u32
     }
 
     // Whether a bit is set.
-    fn bit(&self, place: u32) -> bool
-        requires { place < 256 }
+    fn bit(&self, place: u8) -> bool
         ensures { result ≡ (number self.now.words / 2 ^ place % 2 == 1) }
     {
-        (self.words[(place / 32) as usize] >> (place % 32)) % 2 == 1
+        (self.words[usize::from(place / 32)] >> (place % 32)) % 2 == 1
     }
 
     // Whether any bit below one is set.
-    fn any_below(&self, place: u32) -> bool
-        requires { place < 256 }
+    fn any_below(&self, place: u8) -> bool
         ensures { result ≡ not (number self.now.words % 2 ^ place == 0) }
     {
-        let at = (place / 32) as usize;
+        let at = usize::from(place / 32);
         self.words[at] % (1 << (place % 32)) != 0 || any_set(&self.words[..at])
     }
 

@@ -48,7 +48,7 @@ pub places : (m n a b up : ℕ) → m * 2 ^ a * (n * 2 ^ b) * 2 ^ up ≡ m * n *
 places m n a b up = rw (pow-add 2 (a + b) up, pow-add 2 a b, mul-mul-mul_comm m (2 ^ a) n (2 ^ b)) (mul_assoc (m * n) (2 ^ a * 2 ^ b) (2 ^ up))
 
 -- the code's test that two signs differ
-differ : (s t : Bool) → beq s t ≡ same s t
+pub differ : (s t : Bool) → beq s t ≡ same s t
 differ true true = refl
 differ true false = refl
 differ false true = refl

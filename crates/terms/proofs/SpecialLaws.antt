@@ -4,12 +4,11 @@ use mathlib.Core.Bool.{beq}
 use Rattle.std.proofs.lemmas.Bool.{cases_lt, true≢false}
 use Rattle.formats.specs.Value.{Value, nan, infinite, signed}
 use Rattle.formats.specs.declared.reading.Dyadic.{Dyadic}
-use Rattle.sums.specs.Exact.{same}
 use Rattle.terms.specs.declared.factor.Factor.{Factor}
 use Rattle.terms.specs.declared.factor.Factor.TheVariants.{Nan, Infinite, Finite}
 use Rattle.terms.specs.Readings.{units_of, factor_value, both_finite, Signed}
 use Rattle.terms.specs.Terms.{product, times_infinity}
-use Rattle.terms.proofs.ProductLaws.{zero_signed, infinity_signed}
+use Rattle.terms.proofs.ProductLaws.{zero_signed, infinity_signed, differ}
 
 -- an infinity with the sign of both, where both have one
 abbrev pub special_of : Option Bool → Option Bool → Value
@@ -42,16 +41,10 @@ infinity_last : (s : Bool) (d : Dyadic) (t : Option Bool) → SignOf d t → spe
 infinity_last s d None signs = infinity_first s d None signs
 infinity_last s d (Some t) signs = ap (λ b. infinite (not b)) (either_order t s) ∙ infinity_first s d (Some t) signs
 
-same_beq : (s t : Bool) → infinite (not (beq s t)) ≡ infinite (not (same s t))
-same_beq true true = refl
-same_beq true false = refl
-same_beq false true = refl
-same_beq false false = refl
-
 pub special_product : (x y : Factor) (s t : Option Bool) → Signed x s → Signed y t → both_finite x y ≡ false → (up : ℕ) → special_of s t ≡ product up (factor_value x) (factor_value y)
 special_product Nan y s t g h e up = rw g refl
 special_product (Infinite a) Nan s t g h e up = rw (g, h) refl
-special_product (Infinite a) (Infinite b) s t g h e up = rw (g, h) (same_beq a b)
+special_product (Infinite a) (Infinite b) s t g h e up = rw (g, h) (ap (λ s. infinite (not s)) (differ a b))
 special_product (Infinite a) (Finite d) s t g h e up = rw g (infinity_first a d.value t h)
 special_product (Finite d) Nan None t g h e up = refl
 special_product (Finite d) Nan (Some s) t g h e up = rw h refl

@@ -8,8 +8,8 @@ pub overflow_cast-result-2 : goal.overflow_cast-result-2
 overflow_cast-result-2 c =
     let ws = c.args.self.now.words in
     let place = c.args.place in
-    rw (c.word-high.ensures.0, c.word-low.ensures.0, two_from ws place c.args.self.now.eight c.requires.fits)
-    (record { fits = omega (arith, shr_below (number ws) 12 place c.requires.fits) })
+    rw (c.word-high.ensures.0, c.word-low.ensures.0, c.from-at.ensures, two_from ws place c.args.self.now.eight c.requires)
+    (record { fits = omega (arith, shr_below (number ws) 12 place c.requires) })
 
 pub returns : goal.returns
-returns c = rw (c.word-high.ensures.0, c.word-low.ensures.0) (two_from c.args.self.now.words c.args.place c.args.self.now.eight c.requires.fits)
+returns c = rw (c.word-high.ensures.0, c.word-low.ensures.0, c.from-at.ensures) (two_from c.args.self.now.words c.args.place c.args.self.now.eight c.requires)
