@@ -1,5 +1,5 @@
 -- Laws of the sizes and their codes.
-use Rattle.std.proofs.Common.{◌≡◌, ℕ, zero, suc, ◌+◌, ◌-◌, ◌*◌, ◌/◌, ◌%◌, ◌^◌, ◌<◌, ◌≤◌, ◌⊎◌, sym, refl, ap, ◌∙◌, ap₂, inl, inr, ⊎_elim, mod-lt, mul_assoc, add-mul, mul-lt-mul_of_pos_right, pow-suc, zero-mul, le_of_mul-le-mul_right, arith, pow_pos, pow_mono, pow-add, shl_lt, shr_lt}
+use Rattle.std.proofs.Common.{◌≡◌, ℕ, zero, suc, ◌+◌, ◌-◌, ◌*◌, ◌/◌, ◌%◌, ◌^◌, ◌<◌, ◌≤◌, max, ◌⊎◌, sym, refl, ap, ◌∙◌, ap₂, inl, inr, ⊎_elim, mod-lt, mul_assoc, add-mul, mul-lt-mul_of_pos_right, pow-suc, zero-mul, le_of_mul-le-mul_right, arith, pow_pos, pow_mono, pow-add, shl_lt, shr_lt}
 use native.Mathlib.Nat.{max-eq_left, max-eq_right}
 use lib.Pow.{split, high, low, shl-shr, shr_mono}
 use Rattle.std.proofs.lemmas.Bool.{cases_lt, cases_eq, cases_order}
@@ -120,9 +120,12 @@ code_at p b n e s k h is be ek short full =
     full)
     ∙ rw (y, d) (sym nq)
 
-pub size_code : (p b n : ℕ) → 1 ≤ p → Shaped p b n → size_at p b (code_of p b n) ≡ n
-unfolding code_of
-size_code p b n h (s, k, is, short, bk) =
+-- n has at most P digits from the place e up, and P of them unless e is the least place b
+abbrev pub LastPlace : (p b n e : ℕ) → Type 0
+LastPlace p b n e = (b ≤ e) × (n < 2 ^ (p + e)) × ((2 ^ (e + (p - 1)) ≤ n) ⊎ (e ≡ b))
+
+pub last_place : (p b n : ℕ) → 1 ≤ p → LastPlace p b n (max b (digits n - p))
+last_place p b n h =
     let e = digits n - p in
     ⊎_elim
     (λ lt.
@@ -132,15 +135,22 @@ size_code p b n h (s, k, is, short, bk) =
     let be : b ≤ e = omega arith in
     let top : n < 2 ^ (p + e) = rw x at (digits_below n) in
     let reach : 2 ^ (e + (p - 1)) ≤ n = rw y at (digits_reach n some) in
-    let ek : e ≤ k = size_aligned p s k e h short (omega arith) in
-    rw (max-eq_right be) (code_at p b n e s k h is be ek top (inl reach)))
+    rw (max-eq_right be) (be, top, inl reach))
     (λ le.
     let fits : digits n ≤ p + b = omega arith in
     let m : 2 ^ digits n ≤ 2 ^ (p + b) = pow_mono fits in
     let top : n < 2 ^ (p + b) = omega (arith, digits_below n) in
     let bb : b ≤ b = omega arith in
-    rw (max-eq_left le) (code_at p b n b s k h is bb bk top (inr refl)))
+    rw (max-eq_left {n = b} {m = digits n - p} le) (bb, top, inr refl))
     (cases_lt b e)
+
+pub size_code : (p b n : ℕ) → 1 ≤ p → Shaped p b n → size_at p b (code_of p b n) ≡ n
+unfolding code_of
+size_code p b n h (s, k, is, short, bk) =
+    let (be, top, full) = last_place p b n h in
+    let e = max b (digits n - p) in
+    let ek : e ≤ k = ⊎_elim (λ reach. size_aligned p s k e h short (omega arith)) (λ eq. omega arith) full in
+    code_at p b n e s k h is be ek top full
 
 pub code_size : (p b c : ℕ) → 1 ≤ p → code_of p b (size_at p b c) ≡ c
 code_size p b c h = size_injective p b (code_of p b (size_at p b c)) c h (size_code p b (size_at p b c) h (size_shaped p b c h))

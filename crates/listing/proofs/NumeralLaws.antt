@@ -72,14 +72,17 @@ ends_even ds some z =
     ap (number_from_digits 10) (sym (ap (λ k. take k ds) e ∙ take_all (length ds) ds (omega arith))) ∙ number_more 10 ds i (omega arith) in
     omega arith
 
+-- the odd part of a fraction, and its places
+parted : (f q : ℕ) → f ≡ q * 2 ^ trailing_zeros w32 f → (f / 2 ^ trailing_zeros w32 f ≡ q) × (places_after f + trailing_zeros w32 f ≡ 32)
+parted f q is = let z = trailing_zeros w32 f in (ap (λ x. x / 2 ^ z) is ∙ shl-shr q z, omega (arith, trailing_le 32 f))
+
 -- the number has no more digits than the places
 pub number_below : (f : ℕ) → f < 2 ^ 32 → number_after f < 10 ^ places_after f
 number_below f below =
     let z = trailing_zeros w32 f in
     let p = places_after f in
     let (q, is, end) = trailing 32 f below in
-    let whole : f / 2 ^ z ≡ q = ap (λ x. x / 2 ^ z) is ∙ shl-shr q z in
-    let e : p + z ≡ 32 = omega (arith, trailing_le 32 f) in
+    let (whole, e) = parted f q is in
     let short : q < 2 ^ p = lt_of_mul-lt-mul_right (2 ^ z) (omega (arith, pow-add 2 p z, ap (λ x. 2 ^ x) e)) in
     rw (whole, mul-pow 2 5 p) (mul-lt-mul_of_pos_right short (some_five p))
 
@@ -117,8 +120,7 @@ fraction f below =
     let z = trailing_zeros w32 f in
     let p = places_after f in
     let (q, is, end) = trailing 32 f below in
-    let whole : f / 2 ^ z ≡ q = ap (λ x. x / 2 ^ z) is ∙ shl-shr q z in
-    let e : p + z ≡ 32 = omega (arith, trailing_le 32 f) in
+    let (whole, e) = parted f q is in
     let ten : 2 ≤ 10 = lit≤ tt in
     ⊎_elim
     (λ (none : (z ≡ 32) × (f ≡ 0)).

@@ -6,7 +6,7 @@ use Rattle.std.proofs.lemmas.Bool.{cases_lt, cases_eq, cases_order}
 use Rattle.layout.specs.Digits.{digits}
 use Rattle.layout.specs.Sizes.{Shaped}
 use Rattle.layout.proofs.DigitLaws.{digits_zero, digits_below, digits_reach}
-use Rattle.layout.proofs.SizeLaws.{twice}
+use Rattle.layout.proofs.SizeLaws.{twice, last_place}
 
 pub record Cell (p b n e s left : ℕ) : Type 0 where
   pub is : n ≡ s * 2 ^ e + left
@@ -15,30 +15,17 @@ pub record Cell (p b n e s left : ℕ) : Type 0 where
   pub above : b ≤ e
   pub full : (2 ^ (p - 1) ≤ s) ⊎ (e ≡ b)
 
-cell_of : (p b n e : ℕ) → b ≤ e → n < 2 ^ (p + e) → (2 ^ (p - 1 + e) ≤ n) ⊎ (e ≡ b) → Cell p b n e (n / 2 ^ e) (n % 2 ^ e)
+cell_of : (p b n e : ℕ) → b ≤ e → n < 2 ^ (p + e) → (2 ^ (e + (p - 1)) ≤ n) ⊎ (e ≡ b) → Cell p b n e (n / 2 ^ e) (n % 2 ^ e)
 cell_of p b n e be top full =
-    let quarter : 2 ^ (p - 1 + e) ≤ n → 2 ^ (p - 1) ≤ n / 2 ^ e = λ r. omega (arith, ap (λ x. x / 2 ^ e) (pow-add 2 (p - 1) e) ∙ shl-shr (2 ^ (p - 1)) e, shr_mono e r) in
+    let turned : e + (p - 1) ≡ p - 1 + e = omega arith in
+    let quarter : 2 ^ (e + (p - 1)) ≤ n → 2 ^ (p - 1) ≤ n / 2 ^ e = λ r.
+    omega (arith, ap (λ x. x / 2 ^ e) (pow-add 2 (p - 1) e) ∙ shl-shr (2 ^ (p - 1)) e, shr_mono e (rw turned at r)) in
     record { is = sym (split n e); below = mod-lt n (pow_pos e); short = shr_lt p e top; above = be; full = search rules }
 
 pub cell_at : (p b n : ℕ) → 1 ≤ p → let e = max b (digits n - p) in Cell p b n e (n / 2 ^ e) (n % 2 ^ e)
 cell_at p b n h =
-    let e = digits n - p in
-    ⊎_elim
-    (λ lt.
-    let some : 0 < n = ⊎_elim (λ z. absurd (omega (arith, ap digits z, digits_zero))) (λ z. omega arith) (cases_eq n 0) in
-    let x : digits n ≡ p + e = omega arith in
-    let y : digits n - 1 ≡ p - 1 + e = omega arith in
-    let be : b ≤ e = omega arith in
-    let top : n < 2 ^ (p + e) = rw x at (digits_below n) in
-    let reach : 2 ^ (p - 1 + e) ≤ n = rw y at (digits_reach n some) in
-    rw (max-eq_right be) (cell_of p b n e be top (inl reach)))
-    (λ le.
-    let fits : digits n ≤ p + b = omega arith in
-    let m : 2 ^ digits n ≤ 2 ^ (p + b) = pow_mono fits in
-    let top : n < 2 ^ (p + b) = omega (arith, digits_below n) in
-    let bb : b ≤ b = omega arith in
-    rw (max-eq_left {n = b} {m = digits n - p} le) (cell_of p b n b bb top (inr refl)))
-    (cases_lt b e)
+    let (be, top, full) = last_place p b n h in
+    cell_of p b n (max b (digits n - p)) be top full
 
 -- S × 2^k in units of 2^e
 pub in_units : (s k e : ℕ) → e ≤ k → s * 2 ^ k ≡ s * 2 ^ (k - e) * 2 ^ e
