@@ -120,11 +120,20 @@ fn of_special(x: Factor, y: Factor) -> Term
 fn multiplied(x: Small, y: Small, scale: Scale) -> Scaled
     ensures { term_value (Finite result) ≡ product (unsigned_abs (scale.power +ℤ pos 32)) (finite (units_of x.value)) (finite (units_of y.value)) }
 {
+    let place = place_of(x, y, scale);
     let (x, y) = (x.value, y.value);
-    let place = i16::from(x.exponent) + i16::from(y.exponent) + i16::from(scale.power) + 96;
     Scaled {
         negative: x.negative != y.negative,
         digits: u32::from(x.significand) * u32::from(y.significand),
-        place: place as u8,
+        place,
     }
+}
+
+// The place of a product: both exponents and the scale, each counted from -32.
+fn place_of(x: Small, y: Small, scale: Scale) -> u8
+    ensures { result ≡ unsigned_abs (x.value.exponent +ℤ pos 32) + unsigned_abs (y.value.exponent +ℤ pos 32) + unsigned_abs (scale.power +ℤ pos 32) }
+{
+    let (x, y) = (x.value.exponent, y.value.exponent);
+    let place = i16::from(x) + i16::from(y) + i16::from(scale.power) + 96;
+    place as u8
 }
