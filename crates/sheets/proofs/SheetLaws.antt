@@ -1,57 +1,36 @@
 -- A sheet, record after record.
-use Rattle.std.proofs.Common.{◌≡◌, ℕ, zero, suc, ◌+◌, ◌-◌, ◌*◌, ◌<◌, ◌≤◌, eqb, true, List, [], ◌∷◌, ◌++◌, length, take, drop, Some, None, Ok, Err, Option, sym, refl, ap, ◌∙◌, subst, ap₂, ◌⊎◌, drop-drop, arith}
+use Rattle.std.proofs.Common.{◌≡◌, ℕ, zero, suc, ◌+◌, ◌-◌, ◌*◌, ◌<◌, ◌≤◌, eqb, true, List, [], ◌∷◌, ◌++◌, length, take, drop, Some, None, Ok, Err, Option, option_to_list, sym, refl, ap, ◌∙◌, subst, ap₂, drop-drop, arith}
 use Rattle.std.proofs.lemmas.List.{append-nil, append_assoc, take_rest, length-drop}
 use Rattle.std.proofs.lemmas.Bool.Decides.{nat_tests}
 use Rattle.std.proofs.lemmas.Bool.{le-leb, eq-eqb, ne_eqb, cond-true, cond-false}
 use Rattle.records.specs.Bodies.{parsed}
-use Rattle.records.specs.Entries.{Parsed, refused}
-use Rattle.records.specs.Fields.{ByNumber}
+use Rattle.records.specs.Entries.{Parsed}
 use Rattle.records.specs.Refusals.{Refusal, shifted, refusal_of}
 use Rattle.records.specs.declared.kind.Kind.{Kind}
-use Rattle.records.specs.declared.kind.Kind.TheVariants.{Clear, Add, Dot, Join, Read}
 use Rattle.registers.specs.Histories.{Book}
 use Rattle.sheets.specs.Faults.{sheet_refusal, ended}
-use Rattle.sheets.specs.Sheets.{record_length, kind_number, record_bytes, is_whole, body, kind_of, of_kind, parsed_head, Outcome, outcome, followed, remaining}
+use Rattle.sheets.specs.Sheets.{record_length, kind_number, record_bytes, is_whole, body, of_kind, parsed_head, Outcome, outcome, followed, remaining}
 use Rattle.sheets.specs.Steps.{Keeps, Tells, Performs, WholeHead, Stepped, Follows}
 use Rattle.sheets.specs.Verdicts.{Verdict, refuses, silent, tells, verdict, lists_after}
 use Rattle.sheets.specs.declared.bench.Bench.{Bench}
 use Rattle.sheets.specs.declared.fault.SheetFault.{SheetFault}
-use Rattle.sheets.specs.declared.fault.SheetFault.TheVariants.{NoSuchKind}
 use Rattle.sheets.specs.declared.fault.Stop.{Stop}
 use Rattle.sheets.specs.declared.line.Line.{Line}
-
--- the kind of a number
-kind_of_lem : (n : ℕ) (k : Kind) → ByNumber n (Ok k) → kind_of n ≡ Some k
-kind_of_lem n Clear e = subst (λ m. kind_of m ≡ Some Clear) e refl
-kind_of_lem n Add e = subst (λ m. kind_of m ≡ Some Add) e refl
-kind_of_lem n Dot e = subst (λ m. kind_of m ≡ Some Dot) e refl
-kind_of_lem n Join e = subst (λ m. kind_of m ≡ Some Join) e refl
-kind_of_lem n Read e = subst (λ m. kind_of m ≡ Some Read) e refl
 
 -- a whole record has its four bytes and its body within what is left
 whole_long : (rest : List ℕ) → is_whole rest ≡ true → (4 ≤ record_bytes rest) × (record_bytes rest ≤ length rest)
 whole_long rest whole = grind (arith, nat_tests)
 
--- the length of a record fits what is left
-fits_whole : (rest : List ℕ) → 4 ≤ length rest → 2 ≤ record_length rest → record_length rest - 2 ≤ length rest - 4 → is_whole rest ≡ true
-fits_whole rest four two short = rw (le-leb 4 (length rest) four, le-leb 2 (record_length rest) two, le-leb (record_bytes rest) (length rest) (omega arith)) refl
-
 -- a record whose length is within what is left
-pub whole_head : (rest : List ℕ) (long n : ℕ) (kind : Kind) (bytes left : List ℕ) → 4 ≤ length rest → long ≡ record_length rest → n ≡ kind_number rest → ByNumber n (Ok kind) → 2 ≤ long → long - 2 ≤ length rest - 4 → bytes ≡ take (long - 2) (take (length rest - 4) (drop 4 rest)) → left ≡ drop (long - 2) (take (length rest - 4) (drop 4 rest)) → WholeHead rest kind bytes left
-whole_head rest long n kind bytes left four is number by two short bytes-is left-is = record {
-  whole = fits_whole rest four (omega arith) (omega arith);
-  kind_is = kind_of_lem (kind_number rest) kind (subst (λ m. ByNumber m (Ok kind)) number by);
-  body_is = bytes-is ∙ ap₂ (λ (k : ℕ) (bs : List ℕ). take (k - 2) bs) is (take_rest rest 4);
-  left_is =
-      let bytes-are : 4 + (record_length rest - 2) ≡ record_bytes rest = omega arith in
-      left-is ∙ ap₂ (λ (k : ℕ) (bs : List ℕ). drop (k - 2) bs) is (take_rest rest 4) ∙ drop-drop (record_length rest - 2) 4 rest ∙ ap (λ k. drop k rest) bytes-are;
-}
-
--- and a kind that there is not
-pub no_kind : (rest : List ℕ) (long n : ℕ) → 4 ≤ length rest → long ≡ record_length rest → n ≡ kind_number rest → (n ≡ 0) ⊎ (5 < n) → 2 ≤ long → long - 2 ≤ length rest - 4 → parsed_head rest ≡ refused (sheet_refusal NoSuchKind)
-no_kind rest long n four is number other two short =
-    let none : kind_of (kind_number rest) ≡ None = grind (arith, nat_tests) in
-    cond-true (is_whole rest) _ _ (fits_whole rest four (omega arith) (omega arith)) ∙ ap (λ k. of_kind k (body rest)) none
+pub whole_at : (rest : List ℕ) (long n : ℕ) (bytes left : List ℕ) → 4 ≤ length rest → long ≡ record_length rest → n ≡ kind_number rest → 2 ≤ long → long - 2 ≤ length rest - 4 → bytes ≡ take (long - 2) (take (length rest - 4) (drop 4 rest)) → left ≡ drop (long - 2) (take (length rest - 4) (drop 4 rest)) → (is_whole rest ≡ true) × (n ≡ kind_number rest) × (bytes ≡ body rest) × (left ≡ drop (record_bytes rest) rest)
+whole_at rest long n bytes left four is number two short bytes-is left-is =
+    let bytes-are : 4 + (record_length rest - 2) ≡ record_bytes rest = omega arith in
+    (
+      rw (le-leb 4 (length rest) four, le-leb 2 (record_length rest) (omega arith), le-leb (record_bytes rest) (length rest) (omega arith)) refl,
+      number,
+      bytes-is ∙ ap₂ (λ (k : ℕ) (bs : List ℕ). take (k - 2) bs) is (take_rest rest 4),
+      left-is ∙ ap₂ (λ (k : ℕ) (bs : List ℕ). drop (k - 2) bs) is (take_rest rest 4) ∙ drop-drop (record_length rest - 2) 4 rest ∙ ap (λ k. drop k rest) bytes-are,
+    )
 
 -- what the record at the head comes to
 pub head_parsed : (rest : List ℕ) (kind : Kind) (bytes left : List ℕ) → WholeHead rest kind bytes left → parsed_head rest ≡ parsed kind bytes
@@ -86,17 +65,7 @@ shorter n rest left b told new s =
 abbrev pub prefixed : List Line → Outcome → Outcome
 prefixed lines later = outcome (lines ++ later.lines) later.fault
 
-abbrev pub line_of : Option Line → List Line
-line_of None = []
-line_of (Some l) = l ∷ []
-
-pub lines_more : (now pushed later : List Line) (told : Option Line) (l : Line) → told ≡ Some l → pushed ≡ now ++ (l ∷ []) → later ≡ pushed → later ≡ now ++ line_of told
-lines_more now pushed later told l e push is = is ∙ push ∙ ap (λ (t : Option Line). now ++ line_of t) (sym e)
-
-pub lines_same : (now later : List Line) (told : Option Line) → told ≡ None → later ≡ now → later ≡ now ++ line_of told
-lines_same now later told e is = is ∙ sym (append-nil now) ∙ ap (λ (t : Option Line). now ++ line_of t) (sym e)
-
-followed-told : (n place : ℕ) (v : Verdict) (told : Option Line) (later : Outcome) → Tells sheet_refusal n v (Ok told) → followed n place v later ≡ prefixed (line_of told) later
+followed-told : (n place : ℕ) (v : Verdict) (told : Option Line) (later : Outcome) → Tells sheet_refusal n v (Ok told) → followed n place v later ≡ prefixed (option_to_list told) later
 followed-told n place (refuses r) told later none = absurd none
 followed-told n place silent None later done = refl
 followed-told n place silent (Some l) later none = absurd none
@@ -132,7 +101,7 @@ pub record Done (sheet : List ℕ) (before now : List Line) (bench : Bench) (num
   pub lines_are : now ≡ before ++ so_far
   pub outcome_is : remaining (length sheet) (λ i. []) 1 0 sheet ≡ prefixed so_far (remaining most book (number + 1) place rest)
 
-pub done_more : (sheet : List ℕ) (before now later : List Line) (old new : Bench) (number : ℕ) (rest left : List ℕ) (told : Option Line) → Done sheet before now old number rest → 0 < length rest → ((b : Book) → Keeps old b → Stepped (number + 1) rest b told left new) → later ≡ now ++ line_of told → Done sheet before later new (number + 1) left
+pub done_more : (sheet : List ℕ) (before now later : List Line) (old new : Bench) (number : ℕ) (rest left : List ℕ) (told : Option Line) → Done sheet before now old number rest → 0 < length rest → ((b : Book) → Keeps old b → Stepped (number + 1) rest b told left new) → later ≡ now ++ option_to_list told → Done sheet before later new (number + 1) left
 done_more sheet before now later old new number rest left told d some steps is =
     let s = steps d.book d.keeps in
     let (fewer, most-is, next) = one_more d.most d.book (number + 1) d.place rest some d.enough in
@@ -151,15 +120,15 @@ done_more sheet before now later old new number rest left told d some steps is =
       book = after;
       most = fewer;
       place = place;
-      so_far = d.so_far ++ line_of told;
+      so_far = d.so_far ++ option_to_list told;
       enough = omega arith;
       keeps = s.keeps;
       place_is = omega arith;
       numbered = omega arith;
-      lines_are = is ∙ ap (λ (ls : List Line). ls ++ line_of told) d.lines_are ∙ append_assoc before d.so_far (line_of told);
+      lines_are = is ∙ ap (λ (ls : List Line). ls ++ option_to_list told) d.lines_are ∙ append_assoc before d.so_far (option_to_list told);
       outcome_is = d.outcome_is
           ∙ ap (prefixed d.so_far) (next ∙ ap (followed (number + 1) d.place v) there ∙ followed-told (number + 1) d.place v told later-is s.tells)
-          ∙ ap (λ (ls : List Line). outcome ls later-is.fault) (sym (append_assoc d.so_far (line_of told) later-is.lines));
+          ∙ ap (λ (ls : List Line). outcome ls later-is.fault) (sym (append_assoc d.so_far (option_to_list told) later-is.lines));
     }
 
 follows_at : (sheet : List ℕ) (before now so_far : List Line) (fault : Option Stop) (r : Option Refusal) → now ≡ before ++ so_far → remaining (length sheet) (λ i. []) 1 0 sheet ≡ prefixed so_far (outcome [] r) → ended fault ≡ r → Follows sheet before fault now

@@ -1,5 +1,5 @@
 -- What the steps of a run answer.
-use Rattle.std.specs.Prelude.{◌≡◌, ℕ, ◌<◌, true, List, [], ◌++◌, length, drop, Some, None, Ok, Err, Option, Result, slice_index_or}
+use Rattle.std.specs.Prelude.{◌≡◌, ℕ, ◌<◌, true, false, List, [], ◌++◌, length, drop, Some, None, Ok, Err, Option, Result, slice_index_or}
 use Rattle.std.specs.Borrow.{Bor}
 use Rattle.formats.specs.declared.fault.Fault.{Fault}
 use Rattle.formats.specs.declared.fault.Fault.TheVariants.{NoSuchFormat, CodeTooLarge, ValueNotRepresentable, ScaleOutOfRange, RegisterFull, NotWholeCodes}
@@ -56,6 +56,12 @@ offset_of codes NotWholeCodes = codes
 abbrev pub Placed : ℕ → Result Unit Fault → Result (Option Line) RecordFault → Type 0
 Placed codes (Ok done) r = r ≡ Ok None
 Placed codes (Err f) r = r ≡ Err (Arithmetic (offset_of codes f) f)
+
+-- the whole record at the head: the number of its kind, its body and what is left after it; None where there is no whole one
+abbrev pub Whole : List ℕ → Option (ℕ × Bor (List ℕ) × Bor (List ℕ)) → Type 0
+Whole rest None = is_whole rest ≡ false
+Whole rest (Some (number, bytes, left)) =
+    (is_whole rest ≡ true) × (number ≡ kind_number rest) × (bytes.now ≡ body rest) × (left.now ≡ drop (record_bytes rest) rest)
 
 -- the kind and the body of the record at the head and what is left after it, or why none stands there
 pub record WholeHead (rest : List ℕ) (kind : Kind) (bytes left : List ℕ) : Type 0 where

@@ -1,7 +1,7 @@
 // Running a sheet: record after record, to its end or to the first fault.
 ghost use Rattle.std.specs.Prelude.{◌≤◌, length, IfOk};
 ghost use Rattle.sheets.specs.Sheets.{reported};
-ghost use Rattle.sheets.specs.Steps.{Heads, Steps, Follows, Reports};
+ghost use Rattle.sheets.specs.Steps.{Whole, Heads, Steps, Follows, Reports};
 
 use crate::bench::Bench;
 use crate::fault::{SheetFault, Stop};
@@ -46,9 +46,7 @@ fn follow(sheet: &[u8], lines: &mut Vec<Line>) -> Result<Option<Stop>, AllocErro
         number += 1;
         match step(&mut bench, number, rest) {
             Ok((line, left)) => {
-                if let Some(line) = line {
-                    lines.push(line)?;
-                }
+                lines.extend(line)?;
                 rest = left;
             }
             Err(fault) => {
@@ -79,13 +77,19 @@ fn step<'a>(
 fn head(rest: &[u8]) -> Result<(Kind, &[u8], &[u8]), SheetFault>
     ensures { Heads rest.now result }
 {
+    let (number, body, left) = whole(rest).ok_or(SheetFault::NotARecord)?;
+    Ok((Kind::try_from(number)?, body, left))
+}
+
+// The number of its kind and the body of the record at the head of what is left, and what is left
+// after it, if a whole record stands there.
+fn whole(rest: &[u8]) -> Option<(u16, &[u8], &[u8])>
+    ensures { Whole rest.now result }
+{
     let [l0, l1, k0, k1, after @ ..] = rest else {
-        return Err(SheetFault::NotARecord);
+        return None;
     };
-    let (body, left) = usize::from(u16::from_le_bytes([*l0, *l1]))
-        .checked_sub(2)
-        .and_then(|length| after.split_at_checked(length))
-        .ok_or(SheetFault::NotARecord)?;
-    let kind = Kind::try_from(u16::from_le_bytes([*k0, *k1]))?;
-    Ok((kind, body, left))
+    let length = usize::from(u16::from_le_bytes([*l0, *l1])).checked_sub(2)?;
+    let (body, left) = after.split_at_checked(length)?;
+    Some((u16::from_le_bytes([*k0, *k1]), body, left))
 }

@@ -1,25 +1,18 @@
-use Rattle.std.proofs.Common.{◌≡◌, ◌<◌, length, vec_items, refl, rules}
-use Rattle.sheets.proofs.SheetLaws.{lines_more, lines_same, shorter, done_more, done_all, done_fault}
+use Rattle.std.proofs.Common.{◌≡◌, ◌<◌, ◌++◌, length, vec_items, Ok, ap, map-id, sym, ◌∙◌, rules}
+use Rattle.std.proofs.lemmas.Iterator.Adapters.{fact_from_extend, YieldsList-from_once}
+use Rattle.sheets.proofs.SheetLaws.{shorter, done_more, done_all, done_fault}
 use Rattle.sheets.proofs.run.follow.Goals as goal
-
-pub loop-rest-smaller-in_ok-push-in-Ok : goal.loop-rest-smaller-in_ok-push-in-Ok
-loop-rest-smaller-in_ok-push-in-Ok c = shorter _ _ _ _ _ _ (c.in-Ok.ensures c.loop-rest.invariant.book c.loop-rest.invariant.keeps)
 
 pub loop-rest-smaller : goal.loop-rest-smaller
 loop-rest-smaller c = shorter _ _ _ _ _ _ (c.in-Ok.ensures c.loop-rest.invariant.book c.loop-rest.invariant.keeps)
 
-pub loop-rest-preserved-in_ok-push-in-Ok : goal.loop-rest-preserved-in_ok-push-in-Ok
-loop-rest-preserved-in_ok-push-in-Ok c =
-    let some : 0 < length c.loop-rest.rest.now = search rules in
-    done_more c.args.sheet.now (vec_items c.args.lines.now) (vec_items c.loop-rest.lines) _ c.loop-rest.bench c.step.new.bench c.loop-rest.number
-    c.loop-rest.rest.now _ c.in-Ok.line c.loop-rest.invariant some c.in-Ok.ensures
-    (lines_more _ _ _ _ c.in-Some.line c.in-Some.is c.in_ok-push-in-Ok.ensures.items refl)
-
 pub loop-rest-preserved : goal.loop-rest-preserved
 loop-rest-preserved c =
     let some : 0 < length c.loop-rest.rest.now = search rules in
+    let more = fact_from_extend {E = Unit {0}} (λ l. l) (Ok tt) c.in_ok-extend-in-Ok.ensures.ran (λ once b. YieldsList-from_once c.in-Ok.line b.0)
+    (λ items all added. added.0 ∙ ap (λ ls. vec_items c.loop-rest.lines ++ ls) (sym (map-id items) ∙ all)) in
     done_more c.args.sheet.now (vec_items c.args.lines.now) (vec_items c.loop-rest.lines) _ c.loop-rest.bench c.step.new.bench c.loop-rest.number
-    c.loop-rest.rest.now _ c.in-Ok.line c.loop-rest.invariant some c.in-Ok.ensures (lines_same _ _ _ c.in_default.is refl)
+    c.loop-rest.rest.now _ c.in-Ok.line c.loop-rest.invariant some c.in-Ok.ensures more
 
 pub returns-in-Err : goal.returns-in-Err
 returns-in-Err c =
