@@ -71,7 +71,7 @@ in_units p n c q z precise deep lt top (size, normal) =
     }
 
 -- s × 2^from is s × 2^(from - to) × 2^to
-lowered : (s from to : ℕ) → to ≤ from → s * 2 ^ (from - to) * 2 ^ to ≡ s * 2 ^ from
+pub lowered : (s from to : ℕ) → to ≤ from → s * 2 ^ (from - to) * 2 ^ to ≡ s * 2 ^ from
 lowered s from to le =
     let e : from - to + to ≡ from = omega arith in
     mul_assoc s (2 ^ (from - to)) (2 ^ to) ∙ ap (λ x. s * x) (sym (pow-add 2 (from - to) to)) ∙ ap (λ x. s * 2 ^ x) e

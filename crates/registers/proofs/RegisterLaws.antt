@@ -11,7 +11,7 @@ use Rattle.rounding.proofs.RoundLaws.{keeps_order, keeps_nearest}
 use Rattle.sums.specs.Sums.{value, size}
 use Rattle.sums.specs.declared.sum.Sum.{Sum}
 use Rattle.sums.proofs.SumLaws.{value_once, decided as sums_decided}
-use Rattle.std.proofs.Props.{props}
+use Rattle.std.proofs.Math.Bridge.{le_prop}
 use Rattle.std.proofs.lemmas.Bool.Decides.{Decides-and, Decides-eqb}
 use Rattle.terms.specs.Terms.{exact_sum}
 use Rattle.registers.specs.Calls.{New, Has, read_of}
@@ -27,14 +27,11 @@ known_new r new = record { history = []; store = λ i. r; name = 0; leads = λ i
 held : (n : ℕ) (s : Sum) → size s ≤ n * 2 ^ 191 → Register
 held n s h = record { count = n; sum = s; bounded = h }
 
-one_proof : (m n : ℕ) → IsProp (m ≤ n)
-one_proof m n = Prim.hlevel props
-
 same_held : (n m : ℕ) (s t : Sum) → n ≡ m → s ≡ t → (h : size s ≤ n * 2 ^ 191) (k : size t ≤ m * 2 ^ 191) → held n s h ≡ held m t k
 same_held n m s t e f =
     subst (λ j. (h : size s ≤ n * 2 ^ 191) (k : size t ≤ j * 2 ^ 191) → held n s h ≡ held j t k) e
     (subst (λ u. (h : size s ≤ n * 2 ^ 191) (k : size u ≤ n * 2 ^ 191) → held n s h ≡ held n u k) f
-    (λ h k. ap (held n s) (one_proof (size s) (n * 2 ^ 191) h k)))
+    (λ h k. ap (held n s) (le_prop h k)))
 
 pub same_fields : (r r' : Register) → r.count ≡ r'.count → r.sum ≡ r'.sum → r ≡ r'
 unfolding held

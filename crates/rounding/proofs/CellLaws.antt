@@ -1,11 +1,10 @@
 -- A size between its two neighbours of a precision: n = S × 2^e + left.
 use Rattle.std.proofs.Common.{◌≡◌, ℕ, suc, ◌+◌, ◌-◌, ◌*◌, ◌/◌, ◌%◌, ◌^◌, ◌<◌, ◌≤◌, max, ◌⊎◌, sym, refl, ap, ◌∙◌, inl, inr, ⊎_elim, mul-le-mul_right, mod-lt, mul_assoc, suc-mul, arith, rules, pow_pos, pow_mono, pow-add, shr_lt}
-use native.Mathlib.Nat.{max-eq_left, max-eq_right}
 use lib.Pow.{split, shl-shr, shr_mono}
-use Rattle.std.proofs.lemmas.Bool.{cases_lt, cases_eq, cases_order}
+use Rattle.std.proofs.lemmas.Bool.{cases_lt, cases_order}
 use Rattle.layout.specs.Digits.{digits}
 use Rattle.layout.specs.Sizes.{Shaped}
-use Rattle.layout.proofs.DigitLaws.{digits_zero, digits_below, digits_reach}
+use Rattle.layout.proofs.CodeLaws.{lowered}
 use Rattle.layout.proofs.SizeLaws.{twice, last_place}
 
 pub record Cell (p b n e s left : ℕ) : Type 0 where
@@ -26,12 +25,6 @@ pub cell_at : (p b n : ℕ) → 1 ≤ p → let e = max b (digits n - p) in Cell
 cell_at p b n h =
     let (be, top, full) = last_place p b n h in
     cell_of p b n (max b (digits n - p)) be top full
-
--- S × 2^k in units of 2^e
-pub in_units : (s k e : ℕ) → e ≤ k → s * 2 ^ k ≡ s * 2 ^ (k - e) * 2 ^ e
-in_units s k e h =
-    let x : k ≡ k - e + e = omega arith in
-    ap (λ y. s * 2 ^ y) x ∙ ap (λ y. s * y) (pow-add 2 (k - e) e) ∙ sym (mul_assoc s (2 ^ (k - e)) (2 ^ e))
 
 -- of two multiples of 2^e, one is at least the next of the other
 pub next_unit : (q s e : ℕ) → (q * 2 ^ e ≤ s * 2 ^ e) ⊎ (s * 2 ^ e + 2 ^ e ≤ q * 2 ^ e)
@@ -58,7 +51,7 @@ module _ {p b n e s left : ℕ} (precise : 1 ≤ p) (cell : Cell p b n e s left)
   -- nothing lies strictly between the two neighbours
   pub nothing_between : (v : ℕ) → Shaped p b v → (v ≤ s * 2 ^ e) ⊎ (s * 2 ^ e + 2 ^ e ≤ v)
   nothing_between v (t, k, is, short, bk) =
-      let units = in_units t k e in
+      let units = lowered t k e in
       let next = next_unit (t * 2 ^ (k - e)) s e in
       let full = cell_full in
       let past = passes p t k e precise in
@@ -113,6 +106,6 @@ shaped_finer p b n (s, k, is, short, bk) =
 
 pub shaped_coarser : (p b n : ℕ) → Shaped p (b + 64) n → Shaped p b (n / 2 ^ 64) × (n / 2 ^ 64 * 2 ^ 64 ≡ n)
 shaped_coarser p b n (s, k, is, short, bk) =
-    let e : n ≡ s * 2 ^ (k - 64) * 2 ^ 64 = is ∙ in_units s k 64 (omega arith) in
+    let e : n ≡ s * 2 ^ (k - 64) * 2 ^ 64 = is ∙ sym (lowered s k 64 (omega arith)) in
     let q : n / 2 ^ 64 ≡ s * 2 ^ (k - 64) = ap (λ x. x / 2 ^ 64) e ∙ shl-shr (s * 2 ^ (k - 64)) 64 in
     ((s, k - 64, q, short, omega arith), omega arith)

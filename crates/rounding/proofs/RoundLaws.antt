@@ -122,16 +122,16 @@ module _ (m : Meaning) (laws : Lawful m) (rule : Rule) (mode : Saturation) where
   answers_ordered mono nan y lt = search rules
   answers_ordered mono (infinite s) nan lt = search rules
   answers_ordered mono (infinite s) (infinite t) lt = search rules
-  answers_ordered mono (infinite true) (finite (pos b)) lt = search (rules, across, infinity_sided, size_sided, size_inside)
+  answers_ordered mono (infinite true) (finite (pos b)) lt = search (rules, across, infinity_sided, size_sided)
   answers_ordered mono (infinite true) (finite (negsuc b)) lt = size_inside true (suc b)
   answers_ordered mono (infinite false) (finite y) lt = search rules
   answers_ordered mono (finite x) nan lt = search rules
   answers_ordered mono (finite x) (infinite true) lt = search rules
   answers_ordered mono (finite (pos a)) (infinite false) lt = size_inside false a
-  answers_ordered mono (finite (negsuc a)) (infinite false) lt = search (rules, across, infinity_sided, size_sided, size_inside)
+  answers_ordered mono (finite (negsuc a)) (infinite false) lt = search (rules, across, infinity_sided, size_sided)
   answers_ordered mono (finite (pos a)) (finite (pos b)) lt = sizes_inside mono false a b (omega (arith, ltb-true a b lt))
   answers_ordered mono (finite (pos a)) (finite (negsuc b)) lt = search rules
-  answers_ordered mono (finite (negsuc a)) (finite (pos b)) lt = search (rules, across, infinity_sided, size_sided, size_inside)
+  answers_ordered mono (finite (negsuc a)) (finite (pos b)) lt = search (rules, across, size_sided)
   answers_ordered mono (finite (negsuc a)) (finite (negsuc b)) lt = sizes_inside mono true (suc b) (suc a) (omega (arith, ltb-true b a lt))
 
 pub keeps_order : (m : Meaning) (rule : Rule) (mode : Saturation) → Lawful m → Monotone rule → KeepsOrder m rule mode

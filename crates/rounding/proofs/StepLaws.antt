@@ -7,6 +7,7 @@ use Rattle.std.proofs.lemmas.Nat.{leading_top, mul-le}
 use Rattle.std.proofs.lemmas.Int.{ints}
 use Rattle.std.specs.Option.{is_some}
 use Rattle.std.proofs.lemmas.Bool.{cases_lt}
+use Rattle.layout.proofs.CodeLaws.{lowered}
 use Rattle.layout.specs.Digits.{digits}
 use Rattle.layout.specs.Sizes.{bottom}
 use Rattle.layout.proofs.DigitLaws.{digits_below, pow_order}
@@ -24,7 +25,6 @@ use Rattle.rounding.specs.declared.answers.Mark.TheVariants.{Exact}
 use Rattle.rounding.specs.declared.answers.Saturation.{Saturation}
 use Rattle.rounding.specs.declared.project.Answer.{Answer}
 use Rattle.rounding.specs.declared.placed.Placed.{Placed}
-use Rattle.rounding.proofs.CellLaws.{in_units}
 use Rattle.rounding.proofs.RoundLaws.{size_ways, answered_coded}
 use Rattle.rounding.proofs.SizedLaws.{largest_fine, rounded_most, place_some}
 
@@ -59,7 +59,7 @@ module _ (m : Meaning) (laws : Lawful m) where
       size_aligned p s k shift (omega (arith, laws.precise)) short (rw x far))
       (λ z. omega arith)
       (cases_lt 0 shift) in
-      let units : m.largest ≡ s * 2 ^ (k - shift) * 2 ^ shift = size ∙ in_units s k shift sk in
+      let units : m.largest ≡ s * 2 ^ (k - shift) * 2 ^ shift = size ∙ sym (lowered s k shift sk) in
       let q : m.largest / 2 ^ shift ≡ s * 2 ^ (k - shift) = ap (λ x. x / 2 ^ shift) units ∙ shl-shr (s * 2 ^ (k - shift)) shift in
       (shr_lt 12 shift (omega arith), ap (λ x. x * 2 ^ shift) q ∙ sym units, omega arith)
 
@@ -122,10 +122,10 @@ module _ (m : Meaning) (laws : Lawful m) (rule : Rule) (n : ℕ) (p : Placed) (a
     by_away true w left =
         let next : s * 2 ^ p.place ≡ p.cut.digits * 2 ^ p.place + 2 ^ p.place = rw (e, sym w, add-one p.cut.digits) (suc-mul p.cut.digits (2 ^ p.place)) in
         let below : n % 2 ^ p.place < 2 ^ p.place = mod-lt n (pow_pos p.place) in
-        mark_outward p.negative n (s * 2 ^ (p.place - 64)) (omega (arith, in_units s p.place 64 p.deep, size_is))
+        mark_outward p.negative n (s * 2 ^ (p.place - 64)) (omega (arith, lowered s p.place 64 p.deep, size_is))
     by_away false w left =
         let same : s * 2 ^ p.place ≡ p.cut.digits * 2 ^ p.place = ap (λ x. x * 2 ^ p.place) (omega (arith, rw (sym w) at e)) in
-        mark_inward p.negative n (s * 2 ^ (p.place - 64)) (omega (arith, in_units s p.place 64 p.deep, size_is))
+        mark_inward p.negative n (s * 2 ^ (p.place - 64)) (omega (arith, lowered s p.place 64 p.deep, size_is))
 
     mark_is : marked p.negative n (s * 2 ^ (p.place - 64)) ≡ cut_mark p.negative p.cut away
     mark_is =
@@ -133,14 +133,14 @@ module _ (m : Meaning) (laws : Lawful m) (rule : Rule) (n : ℕ) (p : Placed) (a
         (λ none.
         let still : away ≡ false = aw ∙ rw none.1 refl in
         let same : s * 2 ^ p.place ≡ p.cut.digits * 2 ^ p.place = ap (λ x. x * 2 ^ p.place) (omega (arith, rw still at e)) in
-        rw none.1 (mark_exact p.negative n (s * 2 ^ (p.place - 64)) (omega (arith, in_units s p.place 64 p.deep, size_is))))
+        rw none.1 (mark_exact p.negative n (s * 2 ^ (p.place - 64)) (omega (arith, lowered s p.place 64 p.deep, size_is))))
         (λ some. rw some.1 (by_away away refl some.0))
         (left_ways n p.place p.cut is)
 
     pub settled : (mode : Saturation) (a : Answer) → s * 2 ^ p.place ≤ m.largest * 2 ^ 64 → fine a.reading ≡ finite (signed p.negative (s * 2 ^ (p.place + 32))) → a.mark ≡ cut_mark p.negative p.cut away → Answers (finite (signed p.negative n)) (of_size m rule mode p.negative n) a
     settled mode a most reading mark =
         let k = s * 2 ^ (p.place - 64) in
-        let q : rounded m rule p.negative n / 2 ^ 64 ≡ k = omega (arith, rounded_is, in_units s p.place 64 p.deep) in
+        let q : rounded m rule p.negative n / 2 ^ 64 ≡ k = omega (arith, rounded_is, lowered s p.place 64 p.deep) in
         let v : of_size m rule mode p.negative n ≡ finite (signed p.negative k) =
         ⊎_elim (λ t. t.1 ∙ ap (λ x. finite (signed p.negative x)) q) (λ t. absurd (omega (arith, rounded_is))) (size_ways m rule mode p.negative n) in
         let x : p.place + 32 ≡ p.place - 64 + 96 = omega (arith, p.deep) in

@@ -1,7 +1,7 @@
 use Rattle.std.proofs.Common.{◌≡◌, ◌-◌, ◌*◌, ◌%◌, ◌^◌, ap, ◌∙◌, arith}
 use Rattle.std.proofs.lemmas.Nat.{shl_whole}
 use Rattle.std.proofs.lemmas.Bool.{leb-true, leb-false}
-use Rattle.rounding.proofs.CellLaws.{in_units}
+use Rattle.layout.proofs.CodeLaws.{lowered}
 use Rattle.rounding.proofs.StepLaws.{beyond_place}
 use Rattle.rounding.proofs.project.Target.within.Goals as goal
 
@@ -14,7 +14,7 @@ returns-then-place-lt128 g c =
     ap (λ x. x * 2 ^ (place - 64) % 2 ^ 128) c.from.ensures ∙ shl_whole s 13 (place - 64) 128 (omega arith) (omega arith) in
     let most = c.from-largest.result in
     let is : most ≡ m.largest = c.from-largest.ensures ∙ c.shape.ensures.largest in
-    let units = in_units s place 64 c.requires.0 in
+    let units = lowered s place 64 c.requires.0 in
     record {
       within = λ t. (c.if-place-lt128.true, omega (arith, leb-true _ most t));
       beyond = λ t some. omega (arith, leb-false _ most t);
