@@ -24,8 +24,7 @@ whole_long rest whole = grind (arith, nat_tests)
 -- a record whose length is within what is left
 pub whole_at : (rest : List ℕ) (long n : ℕ) (bytes left : List ℕ) → 4 ≤ length rest → long ≡ record_length rest → n ≡ kind_number rest → 2 ≤ long → long - 2 ≤ length rest - 4 → bytes ≡ take (long - 2) (take (length rest - 4) (drop 4 rest)) → left ≡ drop (long - 2) (take (length rest - 4) (drop 4 rest)) → (is_whole rest ≡ true) × (n ≡ kind_number rest) × (bytes ≡ body rest) × (left ≡ drop (record_bytes rest) rest)
 whole_at rest long n bytes left four is number two short bytes-is left-is =
-    let bytes-are : 4 + (record_length rest - 2) ≡ record_bytes rest = omega arith in
-    (
+    let bytes-are : 4 + (record_length rest - 2) ≡ record_bytes rest = omega arith in (
       rw (le-leb 4 (length rest) four, le-leb 2 (record_length rest) (omega arith), le-leb (record_bytes rest) (length rest) (omega arith)) refl,
       number,
       bytes-is ∙ ap₂ (λ (k : ℕ) (bs : List ℕ). take (k - 2) bs) is (take_rest rest 4),
