@@ -39,12 +39,15 @@ fn run(rt: &HostRuntime) -> anyhow::Result<()> {
     }
 }
 
-// Standard input to its end; what is past the first bytes is read and let go.
+// Standard input to its end; what is past the first bytes is read and let go. Where there is no more, the
+// end was seen, and is not asked for again: a terminal would wait for another.
 fn input(rt: &HostRuntime) -> anyhow::Result<Vec<u8>> {
     let mut sheet = Vec::new(rt.alloc());
     let mut stdin = rt.stdin();
     stdin.by_ref().take(KEPT).read_to_end(&mut sheet)?;
-    io::copy(&mut stdin, &mut io::sink())?;
+    if sheet.len() as u64 == KEPT {
+        io::copy(&mut stdin, &mut io::sink())?;
+    }
     Ok(sheet)
 }
 

@@ -51,11 +51,16 @@ fn digits(before: u64, text: &str) -> Option<u64> {
 pub(crate) fn binary(text: &str) -> Option<Number> {
     let (size, power) = parted(text, '*');
     let twos = power.strip_prefix("2^")?.parse::<i16>().ok()?;
-    let (numerator, denominator) = size.split_once('/').unwrap_or((size, "1"));
+    let (numerator, denominator) = parted(size, '/');
     Some(Number {
         negative: false,
-        numerator: numerator.parse::<u64>().ok()?,
-        denominator: denominator.parse::<u64>().ok()?,
+        // No `parse`, which takes a plus sign and wants a digit.
+        numerator: digits(0, numerator)?,
+        denominator: if denominator.is_empty() {
+            1
+        } else {
+            digits(0, denominator)?
+        },
         tens: 0,
         twos,
     })

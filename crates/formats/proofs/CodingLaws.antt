@@ -9,8 +9,8 @@ use Rattle.layout.proofs.SizeLaws.{size_zero}
 use Rattle.formats.specs.Codings.{Means}
 use Rattle.formats.specs.Meaning.{Meaning}
 use Rattle.formats.specs.Readings.{Decodes}
-use Rattle.formats.specs.SignLaws.{size_in, decodes}
-use Rattle.formats.specs.Signs.{Joined}
+use Rattle.formats.specs.SignLaws.{decodes}
+use Rattle.formats.specs.Signs.{size_in, Joined}
 use Rattle.formats.specs.Value.{nan, infinite, finite, signed, finer}
 use Rattle.formats.specs.declared.reading.Dyadic.{Dyadic}
 use Rattle.formats.specs.declared.reading.Reading.TheVariants.{Nan, PositiveInfinity, NegativeInfinity, Finite}

@@ -8,7 +8,8 @@ use Rattle.layout.specs.Sizes.{size_at}
 use Rattle.formats.specs.Binary16.{magnitude, decode, binary16}
 use Rattle.formats.specs.Meaning.{Coded, Lawful}
 use Rattle.formats.specs.Value.{nan, infinite, finite, negated}
-use Rattle.formats.specs.SignLaws.{IsSignMagnitude, HasSpecials, lawful}
+use Rattle.formats.specs.SignLaws.{lawful}
+use Rattle.formats.specs.Signs.{IsSignMagnitude, HasSpecials}
 use Rattle.formats.specs.ValueLaws.{same_finite, not_infinite, not_nan, negated_twice}
 
 -- the readings, by where the code lies

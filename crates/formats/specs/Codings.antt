@@ -1,7 +1,7 @@
 -- What a sign bit over magnitudes means.
 use Rattle.std.specs.Prelude.{◌≡◌, ◌-◌, ◌^◌}
 use Rattle.formats.specs.Meaning.{Meaning}
-use Rattle.formats.specs.SignLaws.{IsSignMagnitude, HasSpecials}
+use Rattle.formats.specs.Signs.{IsSignMagnitude, HasSpecials}
 use Rattle.formats.specs.declared.signs.SignMagnitude.{SignMagnitude}
 
 -- the codes are those of the meaning

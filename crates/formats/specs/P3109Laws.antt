@@ -1,14 +1,20 @@
 -- The P3109 formats, by width k and precision p.
-use Rattle.std.specs.Prelude.{◌≡◌, ℕ, suc, ◌+◌, ◌-◌, ◌*◌, ◌/◌, ◌^◌, ◌<◌, ◌≤◌, Bool, true, false, ℤ, pos, negsuc, neg_ℤ, ◌≤ℤ◌, unsigned_abs, refl}
+use Rattle.std.specs.Prelude.{◌≡◌, ℕ, suc, ◌+◌, ◌-◌, ◌*◌, ◌/◌, ◌^◌, ◌<◌, ◌≤◌, Bool, true, false, ℤ, pos, negsuc, neg_ℤ, ◌≤ℤ◌, Ok, unsigned_abs, refl}
 use Rattle.std.proofs.Common.{sym, ap, ◌∙◌, inl, ⊎_elim, pow-suc, add-mul, arith, pow_pos, pow_mono, pow-add, shr_lt}
 use Rattle.std.proofs.lemmas.Int.{ints}
 use Rattle.std.proofs.lemmas.Bool.{cases_lt, lt-ltb, le-ltb, eq-eqb, ne_eqb}
+use Rattle.layout.specs.Codes.{Stands}
 use Rattle.layout.specs.Sizes.{bottom, size_at}
+use Rattle.layout.specs.declared.Size.{Size}
 use Rattle.layout.proofs.SizeLaws.{twice, size_packed, size_rises}
-use Rattle.formats.specs.Value.{nan, infinite, finite, negated}
+use Rattle.formats.specs.Value.{nan, infinite, finite, negated, finer}
 use Rattle.formats.specs.Meaning.{Coded, Lawful}
 use Rattle.formats.specs.P3109.{Exists, bias, least, magnitude, decode, p3109}
-use Rattle.formats.specs.SignLaws.{IsSignMagnitude, HasSpecials, lawful}
+use Rattle.formats.specs.Readings.{Decodes}
+use Rattle.formats.specs.SignLaws.{lawful, decodes}
+use Rattle.formats.specs.Signs.{IsSignMagnitude, HasSpecials, Joined}
+use Rattle.formats.specs.declared.reading.Dyadic.{Dyadic}
+use Rattle.formats.specs.declared.reading.Reading.TheVariants.{PositiveInfinity, NegativeInfinity, Finite}
 use Rattle.formats.specs.ValueLaws.{same_finite, not_infinite, not_nan}
 
 module _ (k p : ℕ) (there : Exists k p) where
@@ -141,3 +147,20 @@ module _ (k p : ℕ) (there : Exists k p) where
 
   pub p3109_lawful : Lawful (p3109 k p)
   p3109_lawful = lawful (p3109 k p) (2 ^ (k - 1)) (2 ^ (k - 1) - 1) laid (omega arith) specials.nan_read specials.infinite_read
+
+  -- a magnitude with its sign is the reading of a code
+  pub decodes_signed : (d : ℕ) (negative : Bool) (p' : ℕ) (q : ℤ) (n : ℕ) (z : Size) (y : Dyadic) → d < 2 ^ (k - 1) → p' ≡ p → q ≡ least k p → n ≡ 2 ^ (k - 1) - 1 → (d < n) × Stands p' q d z → Joined negative z y →
+      (negative ≡ false → Decodes (p3109 k p) d (Ok (Finite y))) ×
+      ((c : ℕ) → negative ≡ true → 0 < d → c ≡ 2 ^ (k - 1) + d → Decodes (p3109 k p) c (Ok (Finite y)))
+  decodes_signed d negative p' q n z y lt pp qq nn (small, stands) joined =
+      let below : d < 2 ^ (k - 1) - 1 = omega arith in
+      let stands' = rw (pp, qq) at stands in (
+        λ no. decodes (p3109 k p) d d negative z y (omega (arith, sign_double)) (rw no (reads_positive d below)) stands' joined,
+        λ c yes some e. decodes (p3109 k p) c d negative z y (omega (arith, sign_double)) (rw yes (reads_negative c d e some below)) stands' joined,
+      )
+
+  pub decodes_infinite : (c n : ℕ) → c < 2 ^ (k - 1) → n ≡ 2 ^ (k - 1) - 1 → n ≤ c → Decodes (p3109 k p) c (Ok PositiveInfinity)
+  decodes_infinite c n lt nn le = (omega (arith, sign_double), sym (ap (finer 96) (reads_infinite c (omega arith))), tt)
+
+  pub decodes_negative_infinite : (c d n : ℕ) → d < 2 ^ (k - 1) → n ≡ 2 ^ (k - 1) - 1 → n ≤ d → c ≡ 2 ^ (k - 1) + d → Decodes (p3109 k p) c (Ok NegativeInfinity)
+  decodes_negative_infinite c d n lt nn le e = (omega (arith, sign_double), sym (ap (finer 96) (reads_negative_infinite c (omega arith))), tt)

@@ -1,17 +1,18 @@
--- Formats with a sign bit over a layout of magnitudes: what they have to show of their meaning, and what follows.
-use Rattle.std.specs.Prelude.{◌≡◌, ℕ, zero, suc, ◌+◌, ◌-◌, ◌*◌, ◌/◌, ◌^◌, ◌<◌, ◌≤◌, Bool, true, false, cond, not, ◌&&◌, ℤ, pos, negsuc, ◌+ℤ◌, ◌*ℤ◌, neg_ℤ, ◌≤ℤ◌, Some, None, Option, Ok, ◌==◌, ◌≢◌, unsigned_abs, refl}
+-- Formats with a sign bit over a layout of magnitudes: what follows from what they show of their meaning.
+use Rattle.std.specs.Prelude.{◌≡◌, ℕ, zero, suc, ◌+◌, ◌-◌, ◌*◌, ◌/◌, ◌^◌, ◌<◌, ◌≤◌, Bool, true, false, cond, not, ◌&&◌, ℤ, pos, negsuc, ◌+ℤ◌, ◌*ℤ◌, neg_ℤ, Some, None, Option, Ok, Err, Result, ◌==◌, ◌≢◌, unsigned_abs, refl}
 use Rattle.std.proofs.Common.{sym, ap, subst, ◌∙◌, ⊎_elim, zero-mul, arith, pow_mono}
 use Rattle.std.proofs.Math.Dec.{eqb-suc-zero}
 use Rattle.std.specs.Int.Signed.{non_neg}
 use Rattle.std.proofs.lemmas.Bool.{cases_lt}
 use Rattle.layout.specs.Codes.{Stands}
-use Rattle.layout.specs.Sizes.{bottom, size_at, code_of}
+use Rattle.layout.specs.Sizes.{bottom, code_of}
 use Rattle.layout.specs.declared.Size.{Size}
 use Rattle.layout.proofs.SizeLaws.{size_zero, size_shaped, size_below, size_rises, size_code, code_size}
 use Rattle.formats.specs.Value.{Value, nan, infinite, finite, signed, finer}
 use Rattle.formats.specs.Meaning.{Meaning, Representable, Coded, Lawful}
 use Rattle.formats.specs.Readings.{fine, Decodes, Encodes}
-use Rattle.formats.specs.Signs.{signed_code, Joined, size_of, SignCoded}
+use Rattle.formats.specs.Signs.{size_in, IsSignMagnitude, Joined, size_of, SignCoded, LayoutCoded}
+use Rattle.formats.specs.declared.fault.Fault.{Fault}
 use Rattle.formats.specs.declared.fault.Fault.TheVariants.{ValueNotRepresentable}
 use Rattle.layout.specs.declared.magnitudes.Layout.{Layout}
 use Rattle.std.specs.Option.{ok_or}
@@ -19,36 +20,6 @@ use Rattle.formats.specs.declared.reading.Dyadic.{Dyadic}
 use Rattle.formats.specs.declared.reading.Reading.{Reading}
 use Rattle.formats.specs.declared.reading.Reading.TheVariants.{Finite}
 use Rattle.formats.specs.ValueLaws.{signed-*, abs-*, abs_signed, signed_abs}
-
--- the size at a magnitude code of the format
-abbrev pub size_in : Meaning → ℕ → ℕ
-size_in m k = size_at m.precision (bottom m.least) k
-
--- n magnitudes from code 0 up, and the same with the sign bit, but for zero
-pub record IsSignMagnitude (m : Meaning) (sign n : ℕ) : Type 0 where
-  pub precise : 2 ≤ m.precision
-  pub short : m.precision ≤ 12
-  pub deep : negsuc 31 ≤ℤ m.least
-  pub some : 0 < n
-  pub room : n ≤ sign
-  pub double : 2 ^ m.width ≡ 2 * sign
-  pub top : bottom m.least + m.precision + (n - 1) / 2 ^ (m.precision - 1) ≤ 65
-  pub one : 2 ^ 32 ≤ m.largest
-  pub largest_is : m.largest ≡ size_in m (n - 1)
-  pub positive : (k : ℕ) → k < n → m.decode k ≡ finite (pos (size_in m k))
-  pub negative : (k : ℕ) → 0 < k → k < n → m.decode (sign + k) ≡ finite (neg_ℤ (pos (size_in m k)))
-  pub answer : (z : ℤ) → m.encode (finite z) ≡ signed_code sign m.precision (bottom m.least) z
-  pub only : (c : ℕ) (z : ℤ) → c < 2 ^ m.width → m.decode c ≡ finite z → (k : ℕ) × (k < n) × (unsigned_abs z ≡ size_in m k)
-
--- infinity's codes after the n magnitudes, and NaN at one code and at all past infinity's
-pub record HasSpecials (m : Meaning) (sign n none : ℕ) : Type 0 where
-  pub nan_code : m.encode nan ≡ none
-  pub nan_read : Coded m nan
-  pub infinite_code : (negative : Bool) → m.encode (infinite negative) ≡ n + cond negative sign 0
-  pub infinite_read : (negative : Bool) → Coded m (infinite negative)
-  pub past : (negative : Bool) (k : ℕ) → n < k → k < sign → m.decode (k + cond negative sign 0) ≡ nan
-  -- the sign bit alone is zero where it is not NaN
-  pub zero : sign ≢ none → m.decode sign ≡ finite (pos 0)
 
 -- zero has no sign to lose
 signed_kept : (negative : Bool) (s x : ℕ) → signed (negative && not (s == 0)) (s * x) ≡ signed negative (s * x)
@@ -153,16 +124,25 @@ module _ (m : Meaning) (sign n : ℕ) (laid : IsSignMagnitude m sign n) where
       none k below (ap (λ x. x * 2 ^ 96) (sym size) ∙ sym (abs-* z (2 ^ 96)) ∙ ap unsigned_abs same ∙ abs_signed d.negative (size_of d))
 
   -- what the code for a value over the magnitudes answers is what the meaning has
-  pub encodes : (l : Layout) (d : Dyadic) (r : Option ℕ) → l.precision ≡ m.precision → l.least_exponent ≡ m.least → l.count ≡ n → SignCoded sign l d r → Encodes m (Finite d) (ok_or r ValueNotRepresentable)
-  encodes l d (Some c) pp qq nn (k, lt, is, code) =
-      let (coded, fits, back) = reads_signed d.negative k (rw nn at lt) in (
+  pub encodes : (d : Dyadic) (r : Result ℕ Fault) → SignCoded sign m.precision (bottom m.least) n d r → Encodes m (Finite d) r
+  encodes d (Ok c) (k, lt, is, code) =
+      let (coded, fits, back) = reads_signed d.negative k lt in (
         finite (signed d.negative (size_in m k)),
-        ap finite (signed-* d.negative (size_in m k) (2 ^ 96) ∙ ap (signed d.negative) (rw (pp, qq) at is)),
+        ap finite (signed-* d.negative (size_in m k) (2 ^ 96) ∙ ap (signed d.negative) is),
         code ∙ coded,
         rw code fits,
         rw code back,
       )
-  encodes l d None pp qq nn none = ((refl, refl), λ c lt e. unread d c (m.decode c) (rw (pp, qq, nn) at none) lt refl e)
+  encodes d (Err f) (refused, none) = (refused, λ c lt e. unread d c (m.decode c) none lt refl e)
+
+  -- the same of magnitudes that are known by their numbers
+  pub encodes_over : (sign' p : ℕ) (q : ℤ) (n' : ℕ) (d : Dyadic) (r : Result ℕ Fault) → sign' ≡ sign → p ≡ m.precision → q ≡ m.least → n' ≡ n → SignCoded sign' p (bottom q) n' d r → Encodes m (Finite d) r
+  encodes_over sign' p q n' d r ss pp qq nn coded = encodes d r (rw (ss, pp, qq, nn) at coded)
+
+  -- and of a layout of them
+  pub encodes_layout : (l : Layout) (d : Dyadic) (r : Option ℕ) → l.precision ≡ m.precision → l.least_exponent ≡ m.least → l.count ≡ n → LayoutCoded sign l d r → Encodes m (Finite d) (ok_or r ValueNotRepresentable)
+  encodes_layout l d (Some c) pp qq nn coded = encodes_over sign l.precision l.least_exponent l.count d (Ok c) refl pp qq nn coded
+  encodes_layout l d None pp qq nn none = encodes_over sign l.precision l.least_exponent l.count d (Err ValueNotRepresentable) refl pp qq nn ((refl, refl), none)
 
 -- a size with its sign is the reading of a code that has it
 pub decodes : (m : Meaning) (c k : ℕ) (negative : Bool) (z : Size) (d : Dyadic) → c < 2 ^ m.width → m.decode c ≡ finite (signed negative (size_in m k)) → Stands m.precision m.least k z → Joined negative z d → Decodes m c (Ok (Finite d))

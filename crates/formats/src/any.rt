@@ -49,6 +49,8 @@ impl Format for AnyFormat {
         }
     }
 
+    // Always put into its caller: a call would hand the reading over in memory.
+    #[inline(always)]
     fn decode(&self, code: u16) -> Result<Reading, Fault> {
         match self {
             AnyFormat::OfBinary16(format) => format.decode(code),

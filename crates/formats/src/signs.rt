@@ -23,7 +23,7 @@ impl SignMagnitude {
     ghost use Rattle.layout.specs.Layouts.{layout_size};
     ghost use Rattle.formats.specs.Meaning.{Meaning};
     ghost use Rattle.formats.specs.Readings.{Decodes, Encodes};
-    ghost use Rattle.formats.specs.Signs.{SignCoded};
+    ghost use Rattle.formats.specs.Signs.{LayoutCoded};
     ghost use Rattle.formats.specs.Codings.{Means};
 
     fn sign(&self) -> u16
@@ -80,7 +80,7 @@ impl SignMagnitude {
 
     // The code of the value's magnitude, with the sign bit where the value is below zero.
     fn finite_code(&self, value: Dyadic) -> Option<u16>
-        ensures { SignCoded (2 ^ (self.now.width - 1)) self.now.magnitudes value result }
+        ensures { LayoutCoded (2 ^ (self.now.width - 1)) self.now.magnitudes value result }
     {
         let magnitude = self.magnitudes.find(Size {
             significand: value.significand,

@@ -125,6 +125,7 @@ impl Register {
     }
 
     // Whether two registers are equal in every field.
+    #[tactic(auto, using(crate::proofs::RegisterLaws::decided))]
     pub fn equals(&self, other: &Register) -> bool
         ensures fields { Decides result (self.now ≡ other.now) }
         ensures terms { EqualExactlyWhen self.now other.now }

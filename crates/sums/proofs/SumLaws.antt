@@ -71,3 +71,6 @@ decided NegativeInfinity (Finite b) = (λ e. cc, λ e. cc)
 decided (Finite a) NotANumber = (λ e. cc, λ e. cc)
 decided (Finite a) PositiveInfinity = (λ e. cc, λ e. cc)
 decided (Finite a) NegativeInfinity = (λ e. cc, λ e. cc)
+
+pub decided_value : (a b : Sum) → Decides (SumPartialEq.ghosts.eq a b) (value a ≡ value b)
+decided_value a b = let same = decided a b in (λ e. ap value (same.0 e), λ e. same.1 (value_once a b e))

@@ -102,6 +102,7 @@ impl Sum {
     }
 
     // Whether two sums have one value: then they are equal in every field.
+    #[tactic(auto, using(crate::proofs::SumLaws::decided, crate::proofs::SumLaws::decided_value))]
     pub fn equals(&self, other: &Sum) -> bool
         ensures value { Decides result (value self.now ≡ value other.now) }
         ensures fields { Decides result (self.now ≡ other.now) }

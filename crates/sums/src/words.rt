@@ -48,8 +48,12 @@ fn moved(word: u32, down: bool, more: u64) -> (u32, u64)
     ensures { (Balanced down word more result.0 (result.1 * 2 ^ 32)) × (result.1 ≤ 1) }
 {
     if down {
-        let sum = u64::from(word) + (1 << 32) - more;
-        ((sum % (1 << 32)) as u32, 1 - sum / (1 << 32))
+        let word = u64::from(word);
+        if more <= word {
+            ((word - more) as u32, 0)
+        } else {
+            ((word + (1 << 32) - more) as u32, 1)
+        }
     } else {
         let sum = u64::from(word) + more;
         ((sum % (1 << 32)) as u32, sum / (1 << 32))

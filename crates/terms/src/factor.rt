@@ -26,7 +26,9 @@ pub(crate) enum Factor {
 impl Factor {
     ghost use Rattle.terms.specs.Readings.{Reads, Signed};
 
-    // The reading of a code; refused (2) at a code of 2^K or more.
+    // The reading of a code; refused (2) at a code of 2^K or more. Always put into its caller, as a
+    // format's decode is.
+    #[inline(always)]
     pub(crate) fn read<F: Format>(format: &F, code: u16) -> Result<Factor, Fault>
         ensures { Reads (F.Format.meaning format.now) code result }
     {

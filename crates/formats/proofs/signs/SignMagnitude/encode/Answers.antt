@@ -1,5 +1,5 @@
 use Rattle.std.proofs.Common.{◌≡◌, ◌+◌, ◌^◌, ◌-◌, true, false, ap, ◌∙◌, refl, arith}
-use Rattle.formats.specs.SignLaws.{encodes, encodes_special}
+use Rattle.formats.specs.SignLaws.{encodes_layout, encodes_special}
 use Rattle.formats.specs.Value.{infinite}
 use Rattle.formats.proofs.signs.SignMagnitude.encode.Goals as goal
 
@@ -16,4 +16,4 @@ pub returns-in-Finite : goal.returns-in-Finite
 returns-in-Finite c m means =
     let s = c.args.self.now in
     rw (c.in-Finite.is, c.ok_or.ensures.value)
-    (encodes m (2 ^ (m.width - 1)) s.magnitudes.count means.finite s.magnitudes c.in-Finite.value c.finite_code.result means.precision means.least refl (rw means.width at c.finite_code.ensures))
+    (encodes_layout m (2 ^ (m.width - 1)) s.magnitudes.count means.finite s.magnitudes c.in-Finite.value c.finite_code.result means.precision means.least refl (rw means.width at c.finite_code.ensures))
