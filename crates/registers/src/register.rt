@@ -66,6 +66,7 @@ impl Register {
     }
 
     // Brings one term, the reading of a code. Refused: a code of 2^K or more (2), a full register (5).
+    #[inline]
     pub fn add<F: Format>(&mut self, format: &F, code: u16) -> Result<(), Fault>
         ensures answers { Answers (add_offer (F.Format.meaning format.now) code) self.old result self.new }
         ensures recorded { Recorded (λ i. add i (F.Format.meaning format.now) code) self.old self.new }
@@ -151,13 +152,16 @@ impl Register {
         (project(format, rule, mode, &self.sum), self.count)
     }
 
-    // Brings the terms that a call comes to, or passes its refusal on.
+    // Brings the terms that a call comes to, or passes its refusal on. Always put into the call, as
+    // `bring` is: then a term stays in its three parts.
+    #[inline(always)]
     fn enter<T: Terms + Copy>(&mut self, offered: Result<T, Fault>) -> Result<(), Fault>
         ensures { (o : Offer) → Comes T.number T.total o offered → Answers o self.old result self.new }
     {
         self.bring(&offered?)
     }
 
+    #[inline(always)]
     fn bring<T: Terms>(&mut self, terms: &T) -> Result<(), Fault>
         ensures { Brings (T.number terms.now) (T.total terms.now) self.old result self.new }
     {
