@@ -33,6 +33,7 @@ impl Terms for Register {
         self.count as usize
     }
 
+    #[inline(always)]
     fn bring_to(&self, sum: &mut Sum) {
         sum.add_sum(&self.sum);
     }

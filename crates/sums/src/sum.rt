@@ -53,6 +53,8 @@ impl Sum {
         }
     }
 
+    // Always put into its caller: a sum that was just copied then stays in registers.
+    #[inline(always)]
     pub fn add_sum(&mut self, other: &Sum)
         requires { size self.old + size other.now < 2 ^ 255 }
         ensures { value self.new ≡ plus (value self.old) (value other.now) }
